@@ -14,6 +14,7 @@ ghost use Rattle.fsrm_model.specs.Name.{is_name};
 ghost use Rattle.fsrm_model.specs.Templates.{template_number};
 ghost use Rattle.fsrm_model.specs.Tree.{number, children, is_folder};
 ghost use Rattle.fsrm_model.specs.Valid.{IsVolume};
+ghost use Rattle.fsrm_model.specs.Valued.{is_deed};
 ghost use Rattle.templates.specs.Held.{with_auto};
 ghost use Rattle.fsrm_engine.specs.Applying.{AreComing, IsGiven, apply_refusal, gets_one, given_folders};
 ghost use Rattle.fsrm_engine.specs.Machine.{Does, IsReady, IsSound, IsWhole, Turned, rows_of};
@@ -27,8 +28,8 @@ use crate::places::folder_at;
 use fsrm_base::room::left_of_texts;
 use fsrm_model::limits::MOST_AUTOS;
 use fsrm_model::{
-    Answer, Ask, AutoRow, Duplicate, Ledger, List, NewAutoquota, NoMemory, Path, QuotaRow, Refusal,
-    Steps, Text,
+    Answer, Ask, AutoRow, AutoquotaDeed, Duplicate, Ledger, List, NewAutoquota, NoMemory, Path,
+    QuotaRow, Refusal, Steps, Text,
 };
 use fsrm_objects::Objects;
 use std::alloc::Global;
@@ -203,9 +204,9 @@ impl Parts {
         Ok(())
     }
 
-    /// Gives a folder an auto-apply quota, and quotas of its template to the folders in it, but for those whose names
-    /// it excludes and those that have one.
-    pub(crate) fn auto_add<L: Ledger>(
+    // Gives a folder an auto-apply quota, and quotas of its template to the folders in it, but for those whose names
+    // it excludes and those that have one.
+    fn auto_add<L: Ledger>(
         &mut self,
         alloc: Global,
         auto: &NewAutoquota,
@@ -239,13 +240,8 @@ impl Parts {
         }
     }
 
-    /// Takes an auto-apply quota away. The quotas that it gave stay.
-    pub(crate) fn auto_delete<L: Ledger>(
-        &mut self,
-        path: &Path,
-        moment: u64,
-        steps: &mut Steps<L>,
-    ) -> Answer
+    // Takes an auto-apply quota away. The quotas that it gave stay.
+    fn auto_delete<L: Ledger>(&mut self, path: &Path, moment: u64, steps: &mut Steps<L>) -> Answer
         requires ready { IsReady self.old moment }
         ensures ok { Does self.old self.new moment (Autoquota (AutoquotaDelete path.now)) result }
         ensures sound { IsSound self.new }
@@ -261,11 +257,34 @@ impl Parts {
         self.done(moment)
     }
 
-    /// Lists all auto-apply quotas.
-    pub(crate) fn list_autos(&self, moment: u64) -> Answer
+    // Lists all auto-apply quotas.
+    fn list_autos(&self, moment: u64) -> Answer
         requires ready { IsReady self.now moment }
         ensures { Does self.now self.now moment (Autoquota AutoquotaList) result }
     {
         listing(Ask::Autos)
+    }
+
+    /// Does a command on auto-apply quotas.
+    pub(crate) fn on_autos<L: Ledger>(
+        &mut self,
+        alloc: Global,
+        deed: &AutoquotaDeed,
+        moment: u64,
+        steps: &mut Steps<L>,
+    ) -> Result<Answer, NoMemory>
+        requires ready { IsReady self.old moment }
+        requires valid { is_deed (Autoquota deed.now) ≡ true }
+        ensures ok { IfOk result (λ answer. Does self.old self.new moment (Autoquota deed.now) answer) }
+        ensures memory { OnErr result (may_want_memory (rows_of self.old) (Autoquota deed.now) ≡ true) }
+        ensures err { OnErr result (self.new ≡ self.old) }
+        ensures sound { IsSound self.new }
+        ensures looks { steps.new ≤ steps.old + deed_cost (rows_of self.old) (Autoquota deed.now) }
+    {
+        match deed {
+            AutoquotaDeed::Add(auto) => self.auto_add(alloc, auto, moment, steps),
+            AutoquotaDeed::Delete { path } => Ok(self.auto_delete(path, moment, steps)),
+            AutoquotaDeed::List => Ok(self.list_autos(moment)),
+        }
     }
 }

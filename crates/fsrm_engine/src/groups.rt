@@ -9,12 +9,16 @@ ghost use Rattle.fsrm_model.specs.declared.command.FilegroupDeed.TheVariants.{Ad
 ghost use Rattle.fsrm_model.specs.Commands.{is_new_filegroup, is_filegroup_change};
 ghost use Rattle.fsrm_model.specs.GroupWork.{is_used};
 ghost use Rattle.fsrm_model.specs.Patterns.{is_pattern};
+ghost use Rattle.fsrm_model.specs.Valued.{is_deed};
 ghost use Rattle.fsrm_engine.specs.Machine.{Does, IsReady, IsSound, rows_of};
+ghost use Rattle.fsrm_engine.specs.Memory.{may_want_memory};
 
 use crate::exits::{listing, refused, refused_by_groups};
 use crate::parts::Parts;
 use file_groups::Pattern;
-use fsrm_model::{Answer, Ask, FilegroupChange, List, NewFilegroup, NoMemory, Refusal, Text};
+use fsrm_model::{
+    Answer, Ask, FilegroupChange, FilegroupDeed, List, NewFilegroup, NoMemory, Refusal, Text,
+};
 use fsrm_objects::Objects;
 use std::alloc::Global;
 
@@ -87,8 +91,8 @@ impl Parts {
         is_screened(&self.objects, number) || is_excepted(&self.objects, number)
     }
 
-    /// Makes a file group.
-    pub(crate) fn group_add(
+    // Makes a file group.
+    fn group_add(
         &mut self,
         alloc: Global,
         group: &NewFilegroup,
@@ -112,8 +116,8 @@ impl Parts {
         }
     }
 
-    /// Gives a file group other members, other non-members, or both.
-    pub(crate) fn group_modify(
+    // Gives a file group other members, other non-members, or both.
+    fn group_modify(
         &mut self,
         alloc: Global,
         change: &FilegroupChange,
@@ -140,8 +144,8 @@ impl Parts {
         }
     }
 
-    /// Takes a file group away, if no screen and no exception names it.
-    pub(crate) fn group_delete(&mut self, name: &Text, moment: u64) -> Answer
+    // Takes a file group away, if no screen and no exception names it.
+    fn group_delete(&mut self, name: &Text, moment: u64) -> Answer
         requires ready { IsReady self.old moment }
         ensures ok { Does self.old self.new moment (Filegroup (FilegroupDelete name.now)) result }
         ensures sound { IsSound self.new }
@@ -156,11 +160,33 @@ impl Parts {
         self.done(moment)
     }
 
-    /// Lists all file groups.
-    pub(crate) fn list_groups(&self, moment: u64) -> Answer
+    // Lists all file groups.
+    fn list_groups(&self, moment: u64) -> Answer
         requires ready { IsReady self.now moment }
         ensures { Does self.now self.now moment (Filegroup FilegroupList) result }
     {
         listing(Ask::Groups)
+    }
+
+    /// Does a command on file groups.
+    pub(crate) fn on_groups(
+        &mut self,
+        alloc: Global,
+        deed: &FilegroupDeed,
+        moment: u64,
+    ) -> Result<Answer, NoMemory>
+        requires ready { IsReady self.old moment }
+        requires valid { is_deed (Filegroup deed.now) ≡ true }
+        ensures ok { IfOk result (λ answer. Does self.old self.new moment (Filegroup deed.now) answer) }
+        ensures memory { OnErr result (may_want_memory (rows_of self.old) (Filegroup deed.now) ≡ true) }
+        ensures err { OnErr result (self.new ≡ self.old) }
+        ensures sound { IsSound self.new }
+    {
+        match deed {
+            FilegroupDeed::Add(group) => self.group_add(alloc, group, moment),
+            FilegroupDeed::Modify(change) => self.group_modify(alloc, change, moment),
+            FilegroupDeed::Delete { name } => Ok(self.group_delete(name, moment)),
+            FilegroupDeed::List => Ok(self.list_groups(moment)),
+        }
     }
 }

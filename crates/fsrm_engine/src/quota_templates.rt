@@ -9,14 +9,16 @@ ghost use Rattle.fsrm_model.specs.Commands.{is_new_template, is_template_change}
 ghost use Rattle.fsrm_model.specs.Templates.{template_named};
 ghost use Rattle.fsrm_model.specs.TemplateWork.{retemplated};
 ghost use Rattle.fsrm_model.specs.Thresholds.{percent_of};
-ghost use Rattle.fsrm_engine.specs.Machine.{Does, IsReady, IsSound, IsWhole};
+ghost use Rattle.fsrm_model.specs.Valued.{is_deed};
+ghost use Rattle.fsrm_engine.specs.Machine.{Does, IsReady, IsSound, IsWhole, rows_of};
+ghost use Rattle.fsrm_engine.specs.Memory.{may_want_memory};
 
 use crate::exits::{listing, refused, refused_by_templates};
 use crate::parts::Parts;
 use crate::threshold_lists::{changed_thresholds, may_be_removed};
 use fsrm_model::{
-    Answer, Ask, Duplicate, List, NewTemplate, NoMemory, Refusal, TemplateChange, TemplateRow,
-    Text, Threshold,
+    Answer, Ask, Duplicate, List, NewTemplate, NoMemory, Refusal, TemplateChange, TemplateDeed,
+    TemplateRow, Text, Threshold,
 };
 use fsrm_objects::are_too_many;
 use std::alloc::Global;
@@ -73,8 +75,8 @@ impl Parts {
         self.templates.template(number)
     }
 
-    /// Makes a template.
-    pub(crate) fn template_add(
+    // Makes a template.
+    fn template_add(
         &mut self,
         alloc: Global,
         template: &NewTemplate,
@@ -109,9 +111,9 @@ impl Parts {
         }
     }
 
-    /// Changes what is given of a template: its limit, its type, its thresholds. Then the quotas that were derived from
-    /// it take what it says, as far as the update reaches them.
-    pub(crate) fn template_modify(
+    // Changes what is given of a template: its limit, its type, its thresholds. Then the quotas that were derived from
+    // it take what it says, as far as the update reaches them.
+    fn template_modify(
         &mut self,
         alloc: Global,
         change: &TemplateChange,
@@ -146,9 +148,9 @@ impl Parts {
         }
     }
 
-    /// Takes a template away, if no auto-apply quota names it. The quotas that were derived from it stay, without a
-    /// template.
-    pub(crate) fn template_delete(&mut self, name: &Text, moment: u64) -> Answer
+    // Takes a template away, if no auto-apply quota names it. The quotas that were derived from it stay, without a
+    // template.
+    fn template_delete(&mut self, name: &Text, moment: u64) -> Answer
         requires ready { IsReady self.old moment }
         ensures ok { Does self.old self.new moment (Template (TemplateDelete name.now)) result }
         ensures sound { IsSound self.new }
@@ -165,11 +167,33 @@ impl Parts {
         self.done(moment)
     }
 
-    /// Lists all templates.
-    pub(crate) fn list_templates(&self, moment: u64) -> Answer
+    // Lists all templates.
+    fn list_templates(&self, moment: u64) -> Answer
         requires ready { IsReady self.now moment }
         ensures { Does self.now self.now moment (Template TemplateList) result }
     {
         listing(Ask::Templates)
+    }
+
+    /// Does a command on templates.
+    pub(crate) fn on_templates(
+        &mut self,
+        alloc: Global,
+        deed: &TemplateDeed,
+        moment: u64,
+    ) -> Result<Answer, NoMemory>
+        requires ready { IsReady self.old moment }
+        requires valid { is_deed (Template deed.now) ≡ true }
+        ensures ok { IfOk result (λ answer. Does self.old self.new moment (Template deed.now) answer) }
+        ensures memory { OnErr result (may_want_memory (rows_of self.old) (Template deed.now) ≡ true) }
+        ensures err { OnErr result (self.new ≡ self.old) }
+        ensures sound { IsSound self.new }
+    {
+        match deed {
+            TemplateDeed::Add(template) => self.template_add(alloc, template, moment),
+            TemplateDeed::Modify(change) => self.template_modify(alloc, change, moment),
+            TemplateDeed::Delete { name } => Ok(self.template_delete(name, moment)),
+            TemplateDeed::List => Ok(self.list_templates(moment)),
+        }
     }
 }

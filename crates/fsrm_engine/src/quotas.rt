@@ -9,6 +9,7 @@ ghost use Rattle.fsrm_model.specs.Cost.{deed_cost};
 ghost use Rattle.fsrm_model.specs.QuotaStates.{is_disabled};
 ghost use Rattle.fsrm_model.specs.QuotaWork.{new_quota, modified, remarked};
 ghost use Rattle.fsrm_model.specs.Thresholds.{percent_of};
+ghost use Rattle.fsrm_model.specs.Valued.{is_deed};
 ghost use Rattle.fsrm_engine.specs.Machine.{Does, IsReady, IsSound, IsWhole, rows_of};
 ghost use Rattle.fsrm_engine.specs.Memory.{may_want_memory};
 ghost use Rattle.fsrm_engine.specs.Sources.{IsFirst};
@@ -20,7 +21,7 @@ use crate::states::first_state;
 use crate::threshold_lists::{changed_thresholds, may_be_removed};
 use fsrm_model::{
     Answer, Ask, Duplicate, Ledger, List, NewQuota, NewThresholds, NoMemory, Outcome, Path,
-    QuotaChange, QuotaRow, QuotaState, Refusal, Steps, Text,
+    QuotaChange, QuotaDeed, QuotaRow, QuotaState, Refusal, Steps, Text,
 };
 use std::alloc::Global;
 
@@ -97,8 +98,8 @@ impl Parts {
         Ok(Some(row))
     }
 
-    /// Makes a quota, of a template if one is named. It crosses no threshold: if it counts nothing is used.
-    pub(crate) fn quota_add<L: Ledger>(
+    // Makes a quota, of a template if one is named. It crosses no threshold: if it counts nothing is used.
+    fn quota_add<L: Ledger>(
         &mut self,
         alloc: Global,
         quota: &NewQuota,
@@ -138,8 +139,8 @@ impl Parts {
         }
     }
 
-    /// Changes what is given of a quota: its limit, its type, its thresholds, its status.
-    pub(crate) fn quota_modify<L: Ledger>(
+    // Changes what is given of a quota: its limit, its type, its thresholds, its status.
+    fn quota_modify<L: Ledger>(
         &mut self,
         alloc: Global,
         change: &QuotaChange,
@@ -180,13 +181,8 @@ impl Parts {
         Ok(self.done(moment))
     }
 
-    /// Takes a quota away, with its scan.
-    pub(crate) fn quota_delete<L: Ledger>(
-        &mut self,
-        path: &Path,
-        moment: u64,
-        steps: &mut Steps<L>,
-    ) -> Answer
+    // Takes a quota away, with its scan.
+    fn quota_delete<L: Ledger>(&mut self, path: &Path, moment: u64, steps: &mut Steps<L>) -> Answer
         requires ready { IsReady self.old moment }
         ensures ok { Does self.old self.new moment (Quota (QuotaDelete path.now)) result }
         ensures sound { IsSound self.new }
@@ -201,13 +197,8 @@ impl Parts {
         self.done(moment)
     }
 
-    /// Has a quota wait for a scan.
-    pub(crate) fn quota_scan<L: Ledger>(
-        &mut self,
-        path: &Path,
-        moment: u64,
-        steps: &mut Steps<L>,
-    ) -> Answer
+    // Has a quota wait for a scan.
+    fn quota_scan<L: Ledger>(&mut self, path: &Path, moment: u64, steps: &mut Steps<L>) -> Answer
         requires ready { IsReady self.old moment }
         ensures ok { Does self.old self.new moment (Quota (QuotaScan path.now)) result }
         ensures sound { IsSound self.new }
@@ -229,8 +220,8 @@ impl Parts {
         passing(Outcome::Done { passive: None })
     }
 
-    /// Sets a quota's peak to what is used.
-    pub(crate) fn quota_resetpeak<L: Ledger>(
+    // Sets a quota's peak to what is used.
+    fn quota_resetpeak<L: Ledger>(
         &mut self,
         path: &Path,
         moment: u64,
@@ -263,8 +254,8 @@ impl Parts {
         listing(Ask::Quotas(Some(folder)))
     }
 
-    /// Lists one quota, or all of them.
-    pub(crate) fn quota_list<L: Ledger>(
+    // Lists one quota, or all of them.
+    fn quota_list<L: Ledger>(
         &self,
         path: &Option<Path>,
         moment: u64,
@@ -277,6 +268,32 @@ impl Parts {
         match path {
             Some(path) => self.list_one(path, moment, steps),
             None => listing(Ask::Quotas(None)),
+        }
+    }
+
+    /// Does a command on quotas.
+    pub(crate) fn on_quotas<L: Ledger>(
+        &mut self,
+        alloc: Global,
+        deed: &QuotaDeed,
+        moment: u64,
+        steps: &mut Steps<L>,
+    ) -> Result<Answer, NoMemory>
+        requires ready { IsReady self.old moment }
+        requires valid { is_deed (Quota deed.now) ≡ true }
+        ensures ok { IfOk result (λ answer. Does self.old self.new moment (Quota deed.now) answer) }
+        ensures memory { OnErr result (may_want_memory (rows_of self.old) (Quota deed.now) ≡ true) }
+        ensures err { OnErr result (self.new ≡ self.old) }
+        ensures sound { IsSound self.new }
+        ensures looks { steps.new ≤ steps.old + deed_cost (rows_of self.old) (Quota deed.now) }
+    {
+        match deed {
+            QuotaDeed::Add(quota) => self.quota_add(alloc, quota, moment, steps),
+            QuotaDeed::Modify(change) => self.quota_modify(alloc, change, moment, steps),
+            QuotaDeed::Delete { path } => Ok(self.quota_delete(path, moment, steps)),
+            QuotaDeed::Scan { path } => Ok(self.quota_scan(path, moment, steps)),
+            QuotaDeed::Resetpeak { path } => Ok(self.quota_resetpeak(path, moment, steps)),
+            QuotaDeed::List { path } => Ok(self.quota_list(path, moment, steps)),
         }
     }
 }

@@ -11,6 +11,7 @@ ghost use Rattle.fsrm_model.specs.Cost.{deed_cost};
 ghost use Rattle.fsrm_model.specs.Screens.{screen_folder};
 ghost use Rattle.fsrm_model.specs.ScreenWork.{new_screen, rescreened, screen_checks};
 ghost use Rattle.fsrm_model.specs.Valid.{IsVolume};
+ghost use Rattle.fsrm_model.specs.Valued.{is_deed};
 ghost use Rattle.fsrm_engine.specs.Machine.{Does, IsReady, IsSound, rows_of};
 ghost use Rattle.fsrm_engine.specs.Memory.{may_want_memory};
 ghost use Rattle.fsrm_engine.specs.Places.{IsFolder};
@@ -20,8 +21,8 @@ use crate::group_lists::{changed_groups, groups_with};
 use crate::parts::Parts;
 use crate::places::folder_at;
 use fsrm_model::{
-    Action, Answer, Ask, Duplicate, ExceptRow, Ledger, List, NewException, NewScreen, NoMemory,
-    Path, Refusal, ScreenChange, ScreenRow, Steps,
+    Action, Answer, Ask, Duplicate, ExceptRow, ExceptionDeed, Ledger, List, NewException,
+    NewScreen, NoMemory, Path, Refusal, ScreenChange, ScreenDeed, ScreenRow, Steps,
 };
 use std::alloc::Global;
 
@@ -78,8 +79,8 @@ impl Parts {
         Ok(screen)
     }
 
-    /// Puts a screen on a folder.
-    pub(crate) fn screen_add<L: Ledger>(
+    // Puts a screen on a folder.
+    fn screen_add<L: Ledger>(
         &mut self,
         alloc: Global,
         screen: &NewScreen,
@@ -115,8 +116,8 @@ impl Parts {
         }
     }
 
-    /// Changes what is given of a screen: whether it is active, and its groups. Its actions stay.
-    pub(crate) fn screen_modify<L: Ledger>(
+    // Changes what is given of a screen: whether it is active, and its groups. Its actions stay.
+    fn screen_modify<L: Ledger>(
         &mut self,
         alloc: Global,
         change: &ScreenChange,
@@ -152,13 +153,8 @@ impl Parts {
         }
     }
 
-    /// Takes a screen away.
-    pub(crate) fn screen_delete<L: Ledger>(
-        &mut self,
-        path: &Path,
-        moment: u64,
-        steps: &mut Steps<L>,
-    ) -> Answer
+    // Takes a screen away.
+    fn screen_delete<L: Ledger>(&mut self, path: &Path, moment: u64, steps: &mut Steps<L>) -> Answer
         requires ready { IsReady self.old moment }
         ensures ok { Does self.old self.new moment (Screen (ScreenDelete path.now)) result }
         ensures sound { IsSound self.new }
@@ -172,16 +168,16 @@ impl Parts {
         self.done(moment)
     }
 
-    /// Lists all screens.
-    pub(crate) fn list_screens(&self, moment: u64) -> Answer
+    // Lists all screens.
+    fn list_screens(&self, moment: u64) -> Answer
         requires ready { IsReady self.now moment }
         ensures { Does self.now self.now moment (Screen ScreenList) result }
     {
         listing(Ask::Screens)
     }
 
-    /// Puts an exception on a folder.
-    pub(crate) fn except_add<L: Ledger>(
+    // Puts an exception on a folder.
+    fn except_add<L: Ledger>(
         &mut self,
         alloc: Global,
         except: &NewException,
@@ -215,13 +211,8 @@ impl Parts {
         }
     }
 
-    /// Takes an exception away.
-    pub(crate) fn except_delete<L: Ledger>(
-        &mut self,
-        path: &Path,
-        moment: u64,
-        steps: &mut Steps<L>,
-    ) -> Answer
+    // Takes an exception away.
+    fn except_delete<L: Ledger>(&mut self, path: &Path, moment: u64, steps: &mut Steps<L>) -> Answer
         requires ready { IsReady self.old moment }
         ensures ok { Does self.old self.new moment (Exception (ExceptionDelete path.now)) result }
         ensures sound { IsSound self.new }
@@ -237,11 +228,58 @@ impl Parts {
         self.done(moment)
     }
 
-    /// Lists all exceptions.
-    pub(crate) fn list_excepts(&self, moment: u64) -> Answer
+    // Lists all exceptions.
+    fn list_excepts(&self, moment: u64) -> Answer
         requires ready { IsReady self.now moment }
         ensures { Does self.now self.now moment (Exception ExceptionList) result }
     {
         listing(Ask::Excepts)
+    }
+
+    // Does a command on screens.
+    pub(crate) fn on_screens<L: Ledger>(
+        &mut self,
+        alloc: Global,
+        deed: &ScreenDeed,
+        moment: u64,
+        steps: &mut Steps<L>,
+    ) -> Result<Answer, NoMemory>
+        requires ready { IsReady self.old moment }
+        requires valid { is_deed (Screen deed.now) ≡ true }
+        ensures ok { IfOk result (λ answer. Does self.old self.new moment (Screen deed.now) answer) }
+        ensures memory { OnErr result (may_want_memory (rows_of self.old) (Screen deed.now) ≡ true) }
+        ensures err { OnErr result (self.new ≡ self.old) }
+        ensures sound { IsSound self.new }
+        ensures looks { steps.new ≤ steps.old + deed_cost (rows_of self.old) (Screen deed.now) }
+    {
+        match deed {
+            ScreenDeed::Add(screen) => self.screen_add(alloc, screen, moment, steps),
+            ScreenDeed::Modify(change) => self.screen_modify(alloc, change, moment, steps),
+            ScreenDeed::Delete { path } => Ok(self.screen_delete(path, moment, steps)),
+            ScreenDeed::List => Ok(self.list_screens(moment)),
+        }
+    }
+
+    /// Does a command on exceptions.
+    pub(crate) fn on_exceptions<L: Ledger>(
+        &mut self,
+        alloc: Global,
+        deed: &ExceptionDeed,
+        moment: u64,
+        steps: &mut Steps<L>,
+    ) -> Result<Answer, NoMemory>
+        requires ready { IsReady self.old moment }
+        requires valid { is_deed (Exception deed.now) ≡ true }
+        ensures ok { IfOk result (λ answer. Does self.old self.new moment (Exception deed.now) answer) }
+        ensures memory { OnErr result (may_want_memory (rows_of self.old) (Exception deed.now) ≡ true) }
+        ensures err { OnErr result (self.new ≡ self.old) }
+        ensures sound { IsSound self.new }
+        ensures looks { steps.new ≤ steps.old + deed_cost (rows_of self.old) (Exception deed.now) }
+    {
+        match deed {
+            ExceptionDeed::Add(except) => self.except_add(alloc, except, moment, steps),
+            ExceptionDeed::Delete { path } => Ok(self.except_delete(path, moment, steps)),
+            ExceptionDeed::List => Ok(self.list_excepts(moment)),
+        }
     }
 }

@@ -36,9 +36,9 @@ pub made_wants : (p : Parts) (path : List (List ℕ)) (owner d : ℕ) (name : Li
 made_wants p path owner d name source at is some =
     let autos = p.templates.autos in
     let gets : is_some (template_for autos (target_folder p.tree.nodes path) (last_name path)) ≡ true =
-        ap (λ k. is_some (template_for autos k (last_name path))) (target_is p.tree.nodes (folder_part path) d at.resolved)
-        ∙ (ap (λ text. is_some (template_for autos d text)) at.name_is
-        ∙ (sym (ap is_some is) ∙ some)) in
+    ap (λ k. is_some (template_for autos k (last_name path))) (target_is p.tree.nodes (folder_part path) d at.resolved)
+    ∙ (ap (λ text. is_some (template_for autos d text)) at.name_is
+    ∙ (sym (ap is_some is) ∙ some)) in
     both_true _ _ (ap not at.inner) (both_true _ _ (place_folder p.tree.nodes path d name at) gets)
 
 -- a folder moves
