@@ -1,6 +1,6 @@
 //! The commands on the settings and on the log of actions.
 
-ghost use Rattle.std.specs.Prelude.{◌≡◌, ◌≤◌};
+ghost use Rattle.std.specs.Prelude.{◌≡◌};
 ghost use Rattle.fsrm_model.specs.declared.command.AdminDeed.TheVariants.{Options as AdminOptions, List as AdminList, Log as AdminLog};
 ghost use Rattle.fsrm_model.specs.declared.command.Deed.TheVariants.{Admin};
 ghost use Rattle.fsrm_engine.specs.Machine.{Does, IsReady, IsSound};

@@ -1,7 +1,6 @@
 //! The commands on auto-apply quotas.
 
-ghost use Rattle.std.specs.Prelude.{◌≡◌, ◌+◌, ◌*◌, ◌≤◌, ◌&&◌, ◌++◌, true, false, nat_le, length, filter, fold, IfErr, IfOk, MatchResult, OnOk, OnErr, Some, None};
-ghost use Rattle.std.specs.List.{list_all};
+ghost use Rattle.std.specs.Prelude.{◌≡◌, ◌+◌, ◌*◌, ◌≤◌, ◌&&◌, ◌++◌, true, false, length, filter, fold, IfErr, IfOk, MatchResult, OnOk, OnErr, Some, None};
 ghost use Rattle.fsrm_base.specs.Keyed.{has_row};
 ghost use Rattle.fsrm_model.specs.declared.command.AutoquotaDeed.TheVariants.{Add as AutoquotaAdd, Delete as AutoquotaDelete, List as AutoquotaList};
 ghost use Rattle.fsrm_model.specs.declared.command.Deed.TheVariants.{Autoquota};
@@ -9,8 +8,6 @@ ghost use Rattle.fsrm_model.specs.AutoApply.{auto_folder, is_auto, queue_with, q
 ghost use Rattle.fsrm_model.specs.AutoWork.{new_auto};
 ghost use Rattle.fsrm_model.specs.Commands.{is_new_autoquota};
 ghost use Rattle.fsrm_model.specs.Cost.{deed_cost};
-ghost use Rattle.fsrm_model.specs.Limits.{most_excluded};
-ghost use Rattle.fsrm_model.specs.Name.{is_name};
 ghost use Rattle.fsrm_model.specs.Templates.{template_number};
 ghost use Rattle.fsrm_model.specs.Tree.{number, children, is_folder};
 ghost use Rattle.fsrm_model.specs.Valid.{IsVolume};
