@@ -15,8 +15,8 @@ use Rattle.fsrm_base.proofs.EditedTests.{list_any-with_row}
 use Rattle.fsrm_base.proofs.Look.{found_lacks}
 use Rattle.fsrm_base.proofs.TestLaws.{both, clash, eq_is, eq_test, is_apart, is_or, is_or_not, or_false}
 use Rattle.fsrm_model.specs.declared.row.GroupRow.{GroupRow}
-use Rattle.fsrm_model.specs.Name.{folded}
-use Rattle.fsrm_model.specs.Patterns.{group_number, in_group, in_group_of, with_group}
+use Rattle.fsrm_model.specs.values.Name.{folded}
+use Rattle.fsrm_model.specs.values.Patterns.{group_number, in_group, in_group_of, with_group}
 use Rattle.file_groups.specs.Ends.{Cover, in_some_group, is_end}
 use Rattle.file_groups.specs.Folded.{in_group_folded, matches_folded, pattern_matches_folded, stands_for_folded}
 use Rattle.file_groups.proofs.FoldLaws.{group_folded}

@@ -5,9 +5,9 @@ use Rattle.std.specs.List.{list_any}
 use Rattle.fsrm_model.specs.declared.row.GroupRow.{GroupRow}
 use Rattle.fsrm_base.specs.Causes.{◌when◌, first}
 use Rattle.fsrm_base.specs.Keyed.{row_of}
-use Rattle.fsrm_model.specs.Limits.{most_groups}
-use Rattle.fsrm_model.specs.Patterns.{group_number, has_name, number_named, regrouped}
-use Rattle.fsrm_model.specs.Texts.{group_bytes}
+use Rattle.fsrm_model.specs.values.Limits.{most_groups}
+use Rattle.fsrm_model.specs.values.Patterns.{group_number, has_name, number_named, regrouped}
+use Rattle.fsrm_model.specs.values.Texts.{group_bytes}
 use Rattle.fsrm_base.proofs.Look.{is_some-find, is_some-mapped}
 use Rattle.fsrm_base.proofs.TestLaws.{gt_is, not_le, not_lt, le_test}
 use Rattle.file_groups.specs.declared.answer.GroupFault.TheVariants.{DuplicateName, TableFull, TextsFull}

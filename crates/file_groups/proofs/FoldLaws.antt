@@ -4,8 +4,8 @@ use Rattle.std.specs.Prelude.{chars, map}
 use Rattle.std.specs.List.{list_any}
 use Rattle.ucd_case.specs.CaseFolding.{simple_fold}
 use Rattle.fsrm_model.specs.declared.row.GroupRow.{GroupRow}
-use Rattle.fsrm_model.specs.Name.{folded}
-use Rattle.fsrm_model.specs.Patterns.{in_group, matches, meant, one_then, pattern_matches, some_end, stands_for}
+use Rattle.fsrm_model.specs.values.Name.{folded}
+use Rattle.fsrm_model.specs.values.Patterns.{in_group, matches, meant, one_then, pattern_matches, some_end, stands_for}
 use Rattle.file_groups.specs.Folded.{in_group_folded, matches_folded, one_folded_then, pattern_matches_folded}
 
 some_end_folded : (f g : List ℕ → Bool) → ((cs : List ℕ) → f cs ≡ g (map simple_fold cs)) → (cs : List ℕ) → some_end f cs ≡ some_end g (map simple_fold cs)

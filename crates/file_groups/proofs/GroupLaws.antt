@@ -8,10 +8,10 @@ use Rattle.std.specs.Option.{option_map_or}
 use Rattle.std.specs.Prelude.{IfSome, slice_set, filter, find, option_map}
 use Rattle.fsrm_model.specs.declared.row.GroupRow.{GroupRow}
 use Rattle.fsrm_base.specs.Keyed.{row_of, has_row, is_ascending, with_change, least_free}
-use Rattle.fsrm_model.specs.Name.{folded, same_name}
-use Rattle.fsrm_model.specs.Limits.{most_groups}
-use Rattle.fsrm_model.specs.Patterns.{are_apart, group_number, has_name, in_group, in_group_of, is_group, regrouped, with_group, with_patterns, without_group}
-use Rattle.fsrm_model.specs.Texts.{group_bytes}
+use Rattle.fsrm_model.specs.values.Name.{folded, same_name}
+use Rattle.fsrm_model.specs.values.Limits.{most_groups}
+use Rattle.fsrm_model.specs.values.Patterns.{are_apart, group_number, has_name, in_group, in_group_of, is_group, regrouped, with_group, with_patterns, without_group}
+use Rattle.fsrm_model.specs.values.Texts.{group_bytes}
 use Rattle.fsrm_base.proofs.EditedRows.{sum_by-with_row, sum_by-with_change, sum_by-without_row}
 use Rattle.fsrm_model.proofs.nodes.Keeps.{same_turned}
 use Rattle.fsrm_base.proofs.EditedTests.{list_all-filter, list_all-with_change, list_all-with_row, list_any-filter, list_any-with_row}

@@ -4,9 +4,9 @@ use Rattle.std.proofs.lemmas.List.Elements.{All-weaker}
 use Rattle.std.proofs.lemmas.List.Sums.{AllPass-from_list_all, sum_by-le}
 use Rattle.std.specs.List.{list_all}
 use Rattle.fsrm_model.specs.declared.row.GroupRow.{GroupRow}
-use Rattle.fsrm_model.specs.Limits.{most_groups, most_patterns}
-use Rattle.fsrm_model.specs.Patterns.{are_members, are_non_members, is_group, is_object_byte, is_object_name, is_pattern, is_pattern_byte}
-use Rattle.fsrm_model.specs.Texts.{group_bytes, texts_bytes}
+use Rattle.fsrm_model.specs.values.Limits.{most_groups, most_patterns}
+use Rattle.fsrm_model.specs.values.Patterns.{are_members, are_non_members, is_group, is_object_byte, is_object_name, is_pattern, is_pattern_byte}
+use Rattle.fsrm_model.specs.values.Texts.{group_bytes, texts_bytes}
 use Rattle.fsrm_base.proofs.TestLaws.{both, both_true, le_is, le_test, lt_is, lt_test}
 use Rattle.file_groups.specs.Kept.{AreGroups, AreMembers, AreNonMembers, group_texts}
 

@@ -1,6 +1,6 @@
 -- Why of all stars only the last one has to be tried again.
 use Rattle.std.proofs.Common.{◌≡◌, ℕ, ◌==◌, ◌≤◌, Bool, true, false, cond, ◌&&◌, ◌||◌, inl, inr, List, [], ◌∷◌, length, refl, sym, ◌∙◌, ap, subst, arith}
-use Rattle.fsrm_model.specs.Patterns.{some_end}
+use Rattle.fsrm_model.specs.values.Patterns.{some_end}
 use Rattle.fsrm_base.proofs.TestLaws.{is_or, or_later, clash, not_true, both}
 use Rattle.file_groups.specs.Folded.{matches_folded, one_folded_then, stands_for_folded}
 use Rattle.file_groups.specs.Heads.{StandsFirst}

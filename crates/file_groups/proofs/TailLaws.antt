@@ -4,7 +4,7 @@ use Rattle.std.proofs.Math.Utf8.{encode}
 use Rattle.std.proofs.lemmas.List.{append-nil, nil_from_length}
 use Rattle.std.proofs.lemmas.Str.{chars-nil, chars_from_encodes, encodes-append, encodes-chars}
 use Rattle.std.specs.Str.{IsUtf8}
-use Rattle.fsrm_model.specs.Patterns.{some_end}
+use Rattle.fsrm_model.specs.values.Patterns.{some_end}
 use Rattle.fsrm_base.proofs.TestLaws.{and_false, is_apart}
 use Rattle.file_groups.specs.Folded.{matches_folded, one_folded_then, stands_for_folded}
 use Rattle.file_groups.specs.Heads.{StandsLast}

@@ -5,9 +5,9 @@ use Rattle.std.specs.Option.{option_map_or}
 use Rattle.fsrm_model.specs.declared.row.GroupRow.{GroupRow}
 use Rattle.fsrm_base.specs.Causes.{◌when◌, first}
 use Rattle.fsrm_base.specs.Keyed.{row_of}
-use Rattle.fsrm_model.specs.Limits.{most_groups}
-use Rattle.fsrm_model.specs.Patterns.{group_number, has_name, regrouped}
-use Rattle.fsrm_model.specs.Texts.{group_bytes}
+use Rattle.fsrm_model.specs.values.Limits.{most_groups}
+use Rattle.fsrm_model.specs.values.Patterns.{group_number, has_name, regrouped}
+use Rattle.fsrm_model.specs.values.Texts.{group_bytes}
 use Rattle.file_groups.specs.declared.answer.GroupFault.{GroupFault}
 use Rattle.file_groups.specs.declared.answer.GroupFault.TheVariants.{DuplicateName, TableFull, TextsFull, NoMemory}
 

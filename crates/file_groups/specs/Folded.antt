@@ -3,7 +3,7 @@ use Rattle.std.specs.Prelude.{ℕ, ◌==◌, ◌&&◌, ◌||◌, not, Bool, true
 use Rattle.std.specs.List.{list_any}
 use Rattle.ucd_case.specs.CaseFolding.{simple_fold}
 use Rattle.fsrm_model.specs.declared.row.GroupRow.{GroupRow}
-use Rattle.fsrm_model.specs.Patterns.{meant, some_end}
+use Rattle.fsrm_model.specs.values.Patterns.{meant, some_end}
 
 -- whether a character of a pattern stands for a folded one of a name
 abbrev pub stands_for_folded : ℕ → ℕ → Bool

@@ -3,9 +3,9 @@ use Rattle.std.specs.Prelude.{◌≡◌, ℕ, ◌<◌, ◌≤◌, true, List, le
 use Rattle.std.specs.List.{list_all}
 use Rattle.fsrm_model.specs.declared.row.GroupRow.{GroupRow}
 use Rattle.fsrm_base.specs.Keyed.{is_ascending}
-use Rattle.fsrm_model.specs.Limits.{most_groups, most_patterns}
-use Rattle.fsrm_model.specs.Patterns.{group_number, is_group, are_apart}
-use Rattle.fsrm_model.specs.Texts.{group_bytes}
+use Rattle.fsrm_model.specs.values.Limits.{most_groups, most_patterns}
+use Rattle.fsrm_model.specs.values.Patterns.{group_number, is_group, are_apart}
+use Rattle.fsrm_model.specs.values.Texts.{group_bytes}
 use Rattle.file_groups.specs.Ends.{Cover, in_some_group}
 
 -- a group has 1 to 64 members, and at most 64 non-members

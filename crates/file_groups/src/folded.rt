@@ -2,8 +2,8 @@
 
 ghost use Rattle.std.specs.Prelude.{◌≡◌, ◌≤◌, length};
 ghost use Rattle.ucd_case.specs.CaseFolding.{simple_fold};
-ghost use Rattle.fsrm_model.specs.Limits.{longest_name};
-ghost use Rattle.fsrm_model.specs.Name.{folded};
+ghost use Rattle.fsrm_model.specs.values.Limits.{longest_name};
+ghost use Rattle.fsrm_model.specs.values.Name.{folded};
 
 use fsrm_model::limits::LONGEST_NAME;
 use std::marker::Model;
@@ -18,7 +18,7 @@ pub struct FoldedName {
 
 impl Model for FoldedName {
     ghost use Rattle.std.specs.Prelude.{List, ℕ, ◌≤◌, take};
-    ghost use Rattle.fsrm_model.specs.Limits.{longest_name};
+    ghost use Rattle.fsrm_model.specs.values.Limits.{longest_name};
 
     ghost Value = { List ℕ };
 

@@ -3,8 +3,8 @@
 ghost use Rattle.std.specs.Prelude.{◌≡◌, ℕ, ◌<◌, ◌≤◌, List as Items, IfOk, IfErr, IfSome, OnOk, OnErr, [], None, Some, true, false, is_none, length, slice_get};
 ghost use Rattle.std.specs.Option.{option_copied};
 ghost use Rattle.fsrm_base.specs.Keyed.{row_of, has_row};
-ghost use Rattle.fsrm_model.specs.Name.{folded};
-ghost use Rattle.fsrm_model.specs.Patterns.{group_number, in_group_of, is_group, is_object_name, new_group, number_named, with_group, with_patterns, without_group};
+ghost use Rattle.fsrm_model.specs.values.Name.{folded};
+ghost use Rattle.fsrm_model.specs.values.Patterns.{group_number, in_group_of, is_group, is_object_name, new_group, number_named, with_group, with_patterns, without_group};
 ghost use Rattle.file_groups.specs.Faults.{IsFault, group_fault, new_fault, patterns_fault};
 ghost use Rattle.file_groups.specs.Kept.{AreGroups, AreMembers, AreNonMembers, group_texts};
 

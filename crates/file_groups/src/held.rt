@@ -3,7 +3,7 @@
 ghost use Rattle.std.specs.Prelude.{◌≡◌, true};
 ghost use Rattle.fsrm_base.specs.Keyed.{has_row, is_ascending};
 ghost use Rattle.fsrm_base.specs.Places.{IsAt};
-ghost use Rattle.fsrm_model.specs.Patterns.{group_number, number_named};
+ghost use Rattle.fsrm_model.specs.values.Patterns.{group_number, number_named};
 ghost use Rattle.file_groups.specs.Ends.{Cover, in_some_group};
 ghost use Rattle.file_groups.specs.Folded.{in_group_folded};
 
@@ -71,7 +71,7 @@ impl HeldGroup {
 pub struct ByNumber;
 
 impl Key for ByNumber {
-    ghost use Rattle.fsrm_model.specs.Patterns.{group_number};
+    ghost use Rattle.fsrm_model.specs.values.Patterns.{group_number};
 
     type Row = HeldGroup;
 

@@ -2,8 +2,8 @@
 //! once, with the end of the name, and of the stars before it only the last one that was met is ever tried again.
 
 ghost use Rattle.std.specs.Prelude.{◌≡◌, ◌∷◌, ◌++◌, [], MatchOption, chars};
-ghost use Rattle.fsrm_model.specs.Name.{folded};
-ghost use Rattle.fsrm_model.specs.Patterns.{meant, some_end};
+ghost use Rattle.fsrm_model.specs.values.Name.{folded};
+ghost use Rattle.fsrm_model.specs.values.Patterns.{meant, some_end};
 ghost use Rattle.file_groups.specs.Folded.{matches_folded, pattern_matches_folded, stands_for_folded};
 ghost use Rattle.file_groups.specs.Heads.{AreHeads, AreTails, BeginsWith, EndsWith};
 

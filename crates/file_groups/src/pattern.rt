@@ -2,7 +2,7 @@
 
 ghost use Rattle.std.specs.Prelude.{◌≡◌, true, false, IfOk, OnOk, IsErrOf};
 ghost use Rattle.std.specs.List.{list_all};
-ghost use Rattle.fsrm_model.specs.Patterns.{is_pattern, is_pattern_byte, pattern_matches};
+ghost use Rattle.fsrm_model.specs.values.Patterns.{is_pattern, is_pattern_byte, pattern_matches};
 
 use crate::matching;
 use fsrm_model::Text;
@@ -20,7 +20,7 @@ pub struct Pattern {
 
 impl Model for Pattern {
     ghost use Rattle.std.specs.Prelude.{◌≡◌, List, ℕ, true};
-    ghost use Rattle.fsrm_model.specs.Patterns.{is_pattern};
+    ghost use Rattle.fsrm_model.specs.values.Patterns.{is_pattern};
 
     ghost Value = { List ℕ };
 

@@ -3,8 +3,8 @@
 ghost use Rattle.std.specs.Prelude.{◌≡◌, ◌+◌, ◌<◌, ◌^◌, true, length, IfOk, IfSome, MatchOption, unwrap_or};
 ghost use Rattle.std.specs.List.{list_all, list_any};
 ghost use Rattle.std.specs.Option.{option_copied};
-ghost use Rattle.fsrm_model.specs.Patterns.{is_group, is_pattern, regrouped};
-ghost use Rattle.fsrm_model.specs.Texts.{group_bytes, texts_bytes};
+ghost use Rattle.fsrm_model.specs.values.Patterns.{is_group, is_pattern, regrouped};
+ghost use Rattle.fsrm_model.specs.values.Texts.{group_bytes, texts_bytes};
 ghost use Rattle.file_groups.specs.Folded.{in_group_folded, pattern_matches_folded};
 ghost use Rattle.file_groups.specs.Kept.{AreMembers, AreNonMembers};
 

@@ -11,8 +11,8 @@ use Rattle.fsrm_model.specs.declared.row.ExceptRow.{ExceptRow}
 use Rattle.fsrm_model.specs.declared.row.GroupRow.{GroupRow}
 use Rattle.fsrm_model.specs.declared.row.Rows.{Rows}
 use Rattle.fsrm_model.specs.declared.row.ScreenRow.{ScreenRow}
-use Rattle.fsrm_model.specs.Patterns.{group_number}
-use Rattle.fsrm_model.specs.Screens.{except_folder, in_groups, screen_folder, screen_of}
+use Rattle.fsrm_model.specs.values.Patterns.{group_number}
+use Rattle.fsrm_model.specs.objects.Screens.{except_folder, in_groups, screen_folder, screen_of}
 use Rattle.fsrm_objects.specs.Tables.{Tables}
 use Rattle.file_screens.specs.Blocked.{are_known}
 use Rattle.file_screens.specs.Way.{if_named, is_asked, lets_pass, screen_with}

@@ -9,9 +9,9 @@ use Rattle.fsrm_objects.specs.Tables.{Tables}
 use Rattle.fsrm_model.specs.declared.row.GroupRow.{GroupRow}
 use Rattle.fsrm_model.specs.declared.row.Rows.{Rows}
 use Rattle.fsrm_model.specs.declared.row.ScreenRow.{ScreenRow}
-use Rattle.fsrm_model.specs.Patterns.{in_group_of}
-use Rattle.fsrm_model.specs.Screens.{applies, applying, in_groups, is_excepted, judging, nearer, screen_of}
-use Rattle.fsrm_model.specs.Tree.{chain}
+use Rattle.fsrm_model.specs.values.Patterns.{in_group_of}
+use Rattle.fsrm_model.specs.objects.Screens.{applies, applying, in_groups, is_excepted, judging, nearer, screen_of}
+use Rattle.fsrm_model.specs.nodes.Tree.{chain}
 use Rattle.file_screens.specs.declared.answer.Blocked.{Blocked}
 use Rattle.file_screens.specs.Blocked.{screened_rows, told}
 use Rattle.file_screens.specs.Way.{applying_on, is_active, lets_pass, screen_with}

@@ -1,8 +1,8 @@
 -- How long a name is.
 use Rattle.std.proofs.Common.{◌≡◌, ℕ, ◌≤◌, true, List, length}
 use Rattle.fsrm_base.proofs.TestLaws.{both, le_is}
-use Rattle.fsrm_model.specs.Limits.{longest_name}
-use Rattle.fsrm_model.specs.Name.{is_name}
+use Rattle.fsrm_model.specs.values.Limits.{longest_name}
+use Rattle.fsrm_model.specs.values.Name.{is_name}
 
 pub name_short : (name : List ℕ) → is_name name ≡ true → length name ≤ longest_name
 name_short name h =

@@ -11,7 +11,7 @@ use Rattle.fsrm_model.specs.declared.row.GroupRow.{GroupRow}
 use Rattle.fsrm_model.specs.declared.row.Rows.{Rows}
 use Rattle.fsrm_model.specs.declared.row.ScreenRow.{ScreenRow}
 use Rattle.fsrm_objects.specs.Tables.{Tables}
-use Rattle.fsrm_model.specs.Screens.{applies, except_folder, in_groups, is_excepted, nearer, screen_folder, screen_of}
+use Rattle.fsrm_model.specs.objects.Screens.{applies, except_folder, in_groups, is_excepted, nearer, screen_folder, screen_of}
 use Rattle.file_screens.specs.Blocked.{screened_rows}
 use Rattle.file_screens.specs.Way.{applying_on, if_named, lets_pass, screen_with}
 use Rattle.file_screens.proofs.FolderLaws.{no_screen, no_except}

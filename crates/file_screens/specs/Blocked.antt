@@ -8,8 +8,8 @@ use Rattle.fsrm_model.specs.declared.row.GroupRow.{GroupRow}
 use Rattle.fsrm_model.specs.declared.row.NodeRow.{NodeRow}
 use Rattle.fsrm_model.specs.declared.row.Rows.{Rows}
 use Rattle.fsrm_model.specs.declared.row.ScreenRow.{ScreenRow}
-use Rattle.fsrm_model.specs.Fresh.{rows_of_nodes}
-use Rattle.fsrm_model.specs.Patterns.{group_number}
+use Rattle.fsrm_model.specs.nodes.Fresh.{rows_of_nodes}
+use Rattle.fsrm_model.specs.values.Patterns.{group_number}
 use Rattle.fsrm_objects.specs.Tables.{Tables}
 use Rattle.file_screens.specs.declared.answer.Blocked.{Blocked}
 use Rattle.file_screens.specs.declared.audit.AuditView.{AuditView}

@@ -5,7 +5,7 @@ use Rattle.fsrm_base.specs.Keyed.{row_of}
 use Rattle.fsrm_model.specs.declared.row.ExceptRow.{ExceptRow}
 use Rattle.fsrm_model.specs.declared.row.GroupRow.{GroupRow}
 use Rattle.fsrm_model.specs.declared.row.ScreenRow.{ScreenRow}
-use Rattle.fsrm_model.specs.Screens.{applies, except_folder, in_groups, screen_folder, screen_of}
+use Rattle.fsrm_model.specs.objects.Screens.{applies, except_folder, in_groups, screen_folder, screen_of}
 use Rattle.fsrm_objects.specs.Tables.{Tables}
 use Rattle.file_screens.specs.Blocked.{screened_rows}
 use Rattle.file_screens.specs.declared.answer.Blocked.{Blocked}

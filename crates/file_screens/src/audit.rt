@@ -1,9 +1,9 @@
 //! The audit log.
 
 ghost use Rattle.std.specs.Prelude.{◌≡◌, ◌<◌, ◌≤◌, IfOk, Some, [], true, length, slice_get};
-ghost use Rattle.fsrm_model.specs.Audits.{with_audit};
-ghost use Rattle.fsrm_model.specs.Limits.{longest_name, most_entries};
-ghost use Rattle.fsrm_model.specs.Name.{is_name};
+ghost use Rattle.fsrm_model.specs.objects.Audits.{with_audit};
+ghost use Rattle.fsrm_model.specs.values.Limits.{longest_name, most_entries};
+ghost use Rattle.fsrm_model.specs.values.Name.{is_name};
 ghost use Rattle.file_screens.specs.Blocked.{shown};
 
 use arrayvec::ArrayString;

@@ -4,11 +4,11 @@ ghost use Rattle.std.specs.Prelude.{◌≡◌, ℕ, ◌+◌, ◌∷◌, ◌≤�
 ghost use Rattle.std.specs.List.{list_all};
 ghost use Rattle.fsrm_base.specs.Keyed.{has_row};
 ghost use Rattle.fsrm_base.specs.Numbers.{is_in};
-ghost use Rattle.fsrm_model.specs.Name.{folded, is_name};
-ghost use Rattle.fsrm_model.specs.Patterns.{group_number};
-ghost use Rattle.fsrm_model.specs.Screens.{in_groups, judging};
-ghost use Rattle.fsrm_model.specs.Tree.{chain, is_folder};
-ghost use Rattle.fsrm_model.specs.Valid.{IsVolume};
+ghost use Rattle.fsrm_model.specs.values.Name.{folded, is_name};
+ghost use Rattle.fsrm_model.specs.values.Patterns.{group_number};
+ghost use Rattle.fsrm_model.specs.objects.Screens.{in_groups, judging};
+ghost use Rattle.fsrm_model.specs.nodes.Tree.{chain, is_folder};
+ghost use Rattle.fsrm_model.specs.store.Valid.{IsVolume};
 ghost use Rattle.file_screens.specs.Blocked.{are_known, screened_rows, told};
 ghost use Rattle.file_screens.specs.Way.{ApplyAlike, NoneApply, is_active, is_asked, judging_on, lets_pass, screen_with};
 

@@ -6,9 +6,9 @@ use Rattle.fsrm_model.specs.declared.command.Act.{Act}
 use Rattle.fsrm_model.specs.declared.command.Subject.{Subject}
 use Rattle.fsrm_model.specs.declared.command.Subject.TheVariants.{Quota, Screen}
 use Rattle.fsrm_model.specs.declared.row.Action.{Action}
-use Rattle.fsrm_model.specs.Quota.{folder_of}
-use Rattle.fsrm_model.specs.Screens.{screen_folder}
-use Rattle.fsrm_model.specs.Thresholds.{actions_at}
+use Rattle.fsrm_model.specs.objects.Quota.{folder_of}
+use Rattle.fsrm_model.specs.objects.Screens.{screen_folder}
+use Rattle.fsrm_model.specs.objects.Thresholds.{actions_at}
 use Rattle.fsrm_objects.specs.Tables.{Tables}
 
 -- the actions of a subject

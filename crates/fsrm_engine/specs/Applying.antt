@@ -9,16 +9,16 @@ use Rattle.fsrm_model.specs.declared.row.AutoRow.{AutoRow}
 use Rattle.fsrm_model.specs.declared.row.NodeRow.{NodeRow}
 use Rattle.fsrm_model.specs.declared.row.QuotaRow.{QuotaRow}
 use Rattle.fsrm_model.specs.declared.row.TemplateRow.{TemplateRow}
-use Rattle.fsrm_model.specs.AutoApply.{excludes, subfolders}
-use Rattle.fsrm_model.specs.Check.{◌when◌, first}
-use Rattle.fsrm_model.specs.Limits.{most_autos, most_quotas}
-use Rattle.fsrm_model.specs.Quota.{folder_of, counts, is_limit}
-use Rattle.fsrm_model.specs.QuotaStates.{start}
-use Rattle.fsrm_model.specs.Templates.{template_of, derived}
-use Rattle.fsrm_model.specs.Texts.{auto_bytes, threshold_bytes}
-use Rattle.fsrm_model.specs.Thresholds.{are_thresholds}
-use Rattle.fsrm_model.specs.Tree.{is_folder, name_of, usage}
-use Rattle.fsrm_model.specs.Valid.{is_moment}
+use Rattle.fsrm_model.specs.objects.AutoApply.{excludes, subfolders}
+use Rattle.fsrm_model.specs.commands.Check.{◌when◌, first}
+use Rattle.fsrm_model.specs.values.Limits.{most_autos, most_quotas}
+use Rattle.fsrm_model.specs.objects.Quota.{folder_of, counts, is_limit}
+use Rattle.fsrm_model.specs.objects.QuotaStates.{start}
+use Rattle.fsrm_model.specs.objects.Templates.{template_of, derived}
+use Rattle.fsrm_model.specs.values.Texts.{auto_bytes, threshold_bytes}
+use Rattle.fsrm_model.specs.objects.Thresholds.{are_thresholds}
+use Rattle.fsrm_model.specs.nodes.Tree.{is_folder, name_of, usage}
+use Rattle.fsrm_model.specs.store.Valid.{is_moment}
 use Rattle.fsrm_objects.specs.Tables.{quota_texts}
 use Rattle.fsrm_engine.specs.declared.parts.Parts.{Parts}
 use Rattle.fsrm_engine.specs.Faults.{text_room}

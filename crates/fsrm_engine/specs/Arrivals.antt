@@ -8,10 +8,10 @@ use Rattle.fsrm_model.specs.declared.row.AutoRow.{AutoRow}
 use Rattle.fsrm_model.specs.declared.row.QuotaRow.{QuotaRow}
 use Rattle.fsrm_model.specs.declared.row.QuotaState.{QuotaState}
 use Rattle.fsrm_model.specs.declared.row.TemplateRow.{TemplateRow}
-use Rattle.fsrm_model.specs.AutoApply.{queue_with, quotas_with, template_for}
-use Rattle.fsrm_model.specs.FileOps.{made_node}
-use Rattle.fsrm_model.specs.Quota.{folder_of}
-use Rattle.fsrm_model.specs.Templates.{template_of, derived}
+use Rattle.fsrm_model.specs.objects.AutoApply.{queue_with, quotas_with, template_for}
+use Rattle.fsrm_model.specs.nodes.FileOps.{made_node}
+use Rattle.fsrm_model.specs.objects.Quota.{folder_of}
+use Rattle.fsrm_model.specs.objects.Templates.{template_of, derived}
 use Rattle.volume_tree.specs.Volume.{with_node}
 use Rattle.fsrm_engine.specs.declared.parts.Parts.{Parts}
 use Rattle.fsrm_engine.specs.Applying.{quotas_full}

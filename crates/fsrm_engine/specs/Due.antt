@@ -8,9 +8,9 @@ use Rattle.fsrm_model.specs.declared.command.Outcome.TheVariants.{Refused}
 use Rattle.fsrm_model.specs.declared.row.NodeRow.{NodeRow}
 use Rattle.fsrm_model.specs.declared.row.QuotaRow.{QuotaRow}
 use Rattle.fsrm_model.specs.declared.row.QuotaState.TheVariants.{Complete}
-use Rattle.fsrm_model.specs.Quota.{folder_of, peaked}
-use Rattle.fsrm_model.specs.QuotaStates.{in_state, queued}
-use Rattle.fsrm_model.specs.Tree.{is_under}
+use Rattle.fsrm_model.specs.objects.Quota.{folder_of, peaked}
+use Rattle.fsrm_model.specs.objects.QuotaStates.{in_state, queued}
+use Rattle.fsrm_model.specs.nodes.Tree.{is_under}
 use Rattle.fsrm_objects.specs.Tables.{Tables}
 use Rattle.quota_usage.specs.declared.change.Change.{Change}
 use Rattle.quota_usage.specs.declared.change.Counter.{Counter}

@@ -7,11 +7,11 @@ use Rattle.fsrm_model.specs.declared.command.Answer.{Answer}
 use Rattle.fsrm_model.specs.declared.command.Outcome.TheVariants.{Refused}
 use Rattle.fsrm_model.specs.declared.command.Refusal.{Refusal}
 use Rattle.fsrm_model.specs.declared.command.Refusal.TheVariants as refusal
-use Rattle.fsrm_model.specs.Check.{◌when◌, first}
-use Rattle.fsrm_model.specs.FileOps.{target_folder}
-use Rattle.fsrm_model.specs.Leads.{is_root, leads_to_folder}
-use Rattle.fsrm_model.specs.Limits.{most_text_bytes}
-use Rattle.fsrm_model.specs.Tree.{folder_part, last_name}
+use Rattle.fsrm_model.specs.commands.Check.{◌when◌, first}
+use Rattle.fsrm_model.specs.nodes.FileOps.{target_folder}
+use Rattle.fsrm_model.specs.nodes.Leads.{is_root, leads_to_folder}
+use Rattle.fsrm_model.specs.values.Limits.{most_text_bytes}
+use Rattle.fsrm_model.specs.nodes.Tree.{folder_part, last_name}
 use Rattle.fsrm_objects.specs.declared.answer.ObjectFault.{ObjectFault}
 use Rattle.fsrm_objects.specs.declared.answer.ObjectFault.TheVariants as object
 use Rattle.fsrm_objects.specs.Tables.{texts_in}

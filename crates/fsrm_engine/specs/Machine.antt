@@ -8,16 +8,16 @@ use Rattle.fsrm_model.specs.declared.row.Capacity.{Capacity}
 use Rattle.fsrm_model.specs.declared.row.NodeRow.{NodeRow}
 use Rattle.fsrm_model.specs.declared.row.QuotaRow.{QuotaRow}
 use Rattle.fsrm_model.specs.declared.row.Rows.{Rows}
-use Rattle.fsrm_model.specs.Acts.{has_act, of_quotas, of_screens}
-use Rattle.fsrm_model.specs.Capacities.{is_capacity}
-use Rattle.fsrm_model.specs.Fresh.{rows_of_nodes}
+use Rattle.fsrm_model.specs.objects.Acts.{has_act, of_quotas, of_screens}
+use Rattle.fsrm_model.specs.store.Capacities.{is_capacity}
+use Rattle.fsrm_model.specs.nodes.Fresh.{rows_of_nodes}
 use Rattle.fsrm_base.specs.Keyed.{row_of}
 use Rattle.fsrm_base.specs.Numbers.{is_set}
-use Rattle.fsrm_model.specs.Limits.{latest_moment, most_quotas}
-use Rattle.fsrm_model.specs.Quota.{folder_of, counts, peaked}
-use Rattle.fsrm_model.specs.Step.{Stepped, step}
-use Rattle.fsrm_model.specs.Tree.{usage}
-use Rattle.fsrm_model.specs.Valid.{IsVolume, AreQuotas, IsValid}
+use Rattle.fsrm_model.specs.values.Limits.{latest_moment, most_quotas}
+use Rattle.fsrm_model.specs.objects.Quota.{folder_of, counts, peaked}
+use Rattle.fsrm_model.specs.commands.Step.{Stepped, step}
+use Rattle.fsrm_model.specs.nodes.Tree.{usage}
+use Rattle.fsrm_model.specs.store.Valid.{IsVolume, AreQuotas, IsValid}
 use Rattle.number_set.specs.Numbers.{no_numbers}
 use Rattle.quota_usage.specs.declared.change.Change.{Change}
 use Rattle.quota_usage.specs.declared.change.Counter.{Counter}

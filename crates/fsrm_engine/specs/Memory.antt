@@ -11,10 +11,10 @@ use Rattle.fsrm_model.specs.declared.command.QuotaDeed.TheVariants.{Add as Quota
 use Rattle.fsrm_model.specs.declared.command.ScreenDeed.TheVariants.{Add as ScreenAdd, Modify as ScreenModify}
 use Rattle.fsrm_model.specs.declared.command.TemplateDeed.TheVariants.{Add as TemplateAdd, Modify as TemplateModify}
 use Rattle.fsrm_model.specs.declared.row.Rows.{Rows}
-use Rattle.fsrm_model.specs.AutoApply.{template_for}
-use Rattle.fsrm_model.specs.FileOps.{target_folder}
-use Rattle.fsrm_model.specs.Leads.{is_root, leads_to_folder}
-use Rattle.fsrm_model.specs.Tree.{folder_part, last_name}
+use Rattle.fsrm_model.specs.objects.AutoApply.{template_for}
+use Rattle.fsrm_model.specs.nodes.FileOps.{target_folder}
+use Rattle.fsrm_model.specs.nodes.Leads.{is_root, leads_to_folder}
+use Rattle.fsrm_model.specs.nodes.Tree.{folder_part, last_name}
 
 -- Of the file operations: a folder is made in one that is there, and gets a quota; or a folder moves, so what is in it may
 -- be summed up, and it may get a quota

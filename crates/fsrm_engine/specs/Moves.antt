@@ -2,9 +2,9 @@
 use Rattle.std.specs.Prelude.{◌≡◌, ℕ, ◌==◌, ◌≤◌, ◌||◌, nat_lt, true, false, length, List, IfSome, Option, Some, None, is_some, option_map, if◌then◌else◌}
 use Rattle.fsrm_base.specs.Keyed.{has_row}
 use Rattle.fsrm_model.specs.declared.row.QuotaRow.{QuotaRow}
-use Rattle.fsrm_model.specs.Screens.{judging}
-use Rattle.fsrm_model.specs.Templates.{template_number}
-use Rattle.fsrm_model.specs.Tree.{is_folder, owner_of, parent_of, resolve, usage}
+use Rattle.fsrm_model.specs.objects.Screens.{judging}
+use Rattle.fsrm_model.specs.objects.Templates.{template_number}
+use Rattle.fsrm_model.specs.nodes.Tree.{is_folder, owner_of, parent_of, resolve, usage}
 use Rattle.volume_tree.specs.Volume.{Volume, move_fault}
 use Rattle.file_screens.specs.declared.answer.Blocked.{Blocked}
 use Rattle.file_screens.specs.Blocked.{told}

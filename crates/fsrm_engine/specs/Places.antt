@@ -5,11 +5,11 @@ use Rattle.fsrm_model.specs.declared.command.Refusal.TheVariants.{AlreadyExists,
 use Rattle.fsrm_model.specs.declared.row.NodeRow.{NodeRow}
 use Rattle.fsrm_model.specs.declared.row.QuotaRow.{QuotaRow}
 use Rattle.fsrm_base.specs.Keyed.{row_of, has_row}
-use Rattle.fsrm_model.specs.Limits.{longest_file}
-use Rattle.fsrm_model.specs.Quota.{folder_of}
-use Rattle.fsrm_model.specs.Leads.{is_root, leads_to_folder, leads_to_file}
-use Rattle.fsrm_model.specs.Name.{is_name}
-use Rattle.fsrm_model.specs.Tree.{number, resolve, is_folder, folder_part, last_name}
+use Rattle.fsrm_model.specs.values.Limits.{longest_file}
+use Rattle.fsrm_model.specs.objects.Quota.{folder_of}
+use Rattle.fsrm_model.specs.nodes.Leads.{is_root, leads_to_folder, leads_to_file}
+use Rattle.fsrm_model.specs.values.Name.{is_name}
+use Rattle.fsrm_model.specs.nodes.Tree.{number, resolve, is_folder, folder_part, last_name}
 use Rattle.node_table.specs.declared.view.NodeView.{NodeView}
 use Rattle.volume_tree.specs.Volume.{Volume, Shows, new_fault}
 

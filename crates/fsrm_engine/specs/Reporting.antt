@@ -2,7 +2,7 @@
 use Rattle.std.specs.Prelude.{◌≡◌, ℕ, List, Option, Some, None, option_map}
 use Rattle.std.specs.Option.{option_and_then}
 use Rattle.fsrm_model.specs.declared.row.ScreenRow.{ScreenRow}
-use Rattle.fsrm_model.specs.Work.{Judged}
+use Rattle.fsrm_model.specs.commands.Work.{Judged}
 use Rattle.file_screens.specs.declared.answer.Blocked.{Blocked}
 use Rattle.quota_usage.specs.declared.change.Change.{Change}
 use Rattle.fsrm_engine.specs.declared.parts.Parts.{Parts}

@@ -6,10 +6,10 @@ use Rattle.fsrm_model.specs.declared.command.Answer.{Answer}
 use Rattle.fsrm_model.specs.declared.command.Outcome.TheVariants.{Refused}
 use Rattle.fsrm_model.specs.declared.command.Refusal.TheVariants.{ScreenBlocked}
 use Rattle.fsrm_model.specs.declared.row.ScreenRow.{ScreenRow}
-use Rattle.fsrm_model.specs.Audits.{audit_of, with_audit}
-use Rattle.fsrm_model.specs.DueActions.{due_screen}
-use Rattle.fsrm_model.specs.Screens.{screen_folder}
-use Rattle.fsrm_model.specs.Work.{Judged}
+use Rattle.fsrm_model.specs.objects.Audits.{audit_of, with_audit}
+use Rattle.fsrm_model.specs.objects.DueActions.{due_screen}
+use Rattle.fsrm_model.specs.objects.Screens.{screen_folder}
+use Rattle.fsrm_model.specs.commands.Work.{Judged}
 use Rattle.file_screens.specs.declared.answer.Blocked.{Blocked}
 use Rattle.thresholds.specs.Settled.{SettlesScreen}
 use Rattle.fsrm_engine.specs.declared.parts.Parts.{Parts}

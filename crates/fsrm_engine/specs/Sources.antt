@@ -3,7 +3,7 @@ use Rattle.std.specs.Prelude.{◌≡◌, ℕ, ◌&&◌, is_none, is_some, true, 
 use Rattle.fsrm_model.specs.declared.row.QuotaRow.{QuotaRow}
 use Rattle.fsrm_model.specs.declared.row.QuotaState.{QuotaState}
 use Rattle.fsrm_model.specs.declared.row.Rows.{Rows}
-use Rattle.fsrm_model.specs.QuotaWork.{first_quota, source_of}
+use Rattle.fsrm_model.specs.commands.QuotaWork.{first_quota, source_of}
 
 -- a template is named that isn't there
 abbrev pub is_missing : Rows → Option (List ℕ) → Bool

@@ -3,7 +3,7 @@ use Rattle.std.specs.Prelude.{◌≡◌, ℕ, true, List, [], ◌∷◌, length,
 use Rattle.fsrm_model.specs.declared.row.Capacity.{Capacity}
 use Rattle.fsrm_model.specs.declared.row.NodeRow.{NodeRow}
 use Rattle.fsrm_base.specs.Keyed.{has_row}
-use Rattle.fsrm_model.specs.Tree.{number, usage, under}
+use Rattle.fsrm_model.specs.nodes.Tree.{number, usage, under}
 
 -- what the files at and below these nodes take, and how many nodes there are
 abbrev pub usage_of_all : Capacity → List NodeRow → List ℕ → ℕ

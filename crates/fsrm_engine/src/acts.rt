@@ -3,8 +3,8 @@
 ghost use Rattle.std.specs.Prelude.{◌≡◌, ◌<◌, true, false, length, slice_get};
 ghost use Rattle.std.specs.Option.{option_copied, option_map_or};
 ghost use Rattle.fsrm_base.specs.Keyed.{is_ascending, row_of};
-ghost use Rattle.fsrm_model.specs.Acts.{is_of_quota};
-ghost use Rattle.fsrm_model.specs.Thresholds.{actions_at, percent_of};
+ghost use Rattle.fsrm_model.specs.objects.Acts.{is_of_quota};
+ghost use Rattle.fsrm_model.specs.objects.Thresholds.{actions_at, percent_of};
 ghost use Rattle.thresholds.specs.Settled.{are_orderly};
 ghost use Rattle.fsrm_engine.specs.Acts.{text_in, IsActOf};
 

@@ -4,13 +4,13 @@ ghost use Rattle.std.specs.Prelude.{◌≡◌, ◌+◌, ◌≤◌, [], ◌∷◌
 ghost use Rattle.std.specs.List.{list_all};
 ghost use Rattle.fsrm_base.specs.Keyed.{has_row};
 ghost use Rattle.fsrm_model.specs.declared.row.TemplateRow.{TemplateRow};
-ghost use Rattle.fsrm_model.specs.AutoApply.{queue_with, quotas_with};
-ghost use Rattle.fsrm_model.specs.Limits.{most_quotas};
-ghost use Rattle.fsrm_model.specs.QuotaStates.{start};
-ghost use Rattle.fsrm_model.specs.Templates.{derived, template_number, template_of};
-ghost use Rattle.fsrm_model.specs.Tree.{is_folder};
-ghost use Rattle.fsrm_model.specs.Valid.{IsVolume};
-ghost use Rattle.fsrm_model.specs.ValidScans.{IsQueue};
+ghost use Rattle.fsrm_model.specs.objects.AutoApply.{queue_with, quotas_with};
+ghost use Rattle.fsrm_model.specs.values.Limits.{most_quotas};
+ghost use Rattle.fsrm_model.specs.objects.QuotaStates.{start};
+ghost use Rattle.fsrm_model.specs.objects.Templates.{derived, template_number, template_of};
+ghost use Rattle.fsrm_model.specs.nodes.Tree.{is_folder};
+ghost use Rattle.fsrm_model.specs.store.Valid.{IsVolume};
+ghost use Rattle.fsrm_model.specs.store.ValidScans.{IsQueue};
 ghost use Rattle.fsrm_engine.specs.Applying.{AreComing, derived_rows, quotas_full};
 ghost use Rattle.fsrm_engine.specs.Machine.{IsSound, IsWhole, Turned};
 

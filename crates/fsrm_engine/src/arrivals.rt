@@ -4,12 +4,12 @@
 ghost use Rattle.std.specs.Prelude.{◌≡◌, ◌+◌, ◌*◌, ◌≤◌, ◌==◌, true, false, length, is_some, IfErr, IfOk, IfSome, OnErr, OnOk, Some, None};
 ghost use Rattle.fsrm_base.specs.Keyed.{has_row};
 ghost use Rattle.fsrm_model.specs.declared.row.QuotaState.TheVariants.{Complete};
-ghost use Rattle.fsrm_model.specs.Limits.{latest_moment};
-ghost use Rattle.fsrm_model.specs.Name.{is_name};
-ghost use Rattle.fsrm_model.specs.Quota.{folder_of};
-ghost use Rattle.fsrm_model.specs.QuotaStates.{start};
-ghost use Rattle.fsrm_model.specs.Templates.{template_number};
-ghost use Rattle.fsrm_model.specs.Tree.{fresh, is_folder};
+ghost use Rattle.fsrm_model.specs.values.Limits.{latest_moment};
+ghost use Rattle.fsrm_model.specs.values.Name.{is_name};
+ghost use Rattle.fsrm_model.specs.objects.Quota.{folder_of};
+ghost use Rattle.fsrm_model.specs.objects.QuotaStates.{start};
+ghost use Rattle.fsrm_model.specs.objects.Templates.{template_number};
+ghost use Rattle.fsrm_model.specs.nodes.Tree.{fresh, is_folder};
 ghost use Rattle.volume_tree.specs.Volume.{new_fault};
 ghost use Rattle.fsrm_engine.specs.Machine.{AreCounted, IsSound, IsWhole};
 ghost use Rattle.fsrm_engine.specs.Arrivals.{Receives, from_source, source_fault, with_folder};

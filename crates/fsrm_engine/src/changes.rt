@@ -3,8 +3,8 @@
 ghost use Rattle.std.specs.Prelude.{◌≡◌, ◌+◌, ◌≤◌};
 ghost use Rattle.fsrm_model.specs.declared.command.Deed.TheVariants.{File};
 ghost use Rattle.fsrm_model.specs.declared.command.FileOp.TheVariants.{Resize, Touch};
-ghost use Rattle.fsrm_model.specs.Cost.{deed_cost};
-ghost use Rattle.fsrm_model.specs.Limits.{longest_file};
+ghost use Rattle.fsrm_model.specs.commands.Cost.{deed_cost};
+ghost use Rattle.fsrm_model.specs.values.Limits.{longest_file};
 ghost use Rattle.fsrm_engine.specs.Machine.{Does, IsReady, IsSound, rows_of};
 
 use crate::exits::refused;

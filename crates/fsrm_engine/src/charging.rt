@@ -4,10 +4,10 @@ ghost use Rattle.std.specs.Prelude.{◌≡◌, ◌+◌, ◌*◌, ◌<◌, ◌≤
 ghost use Rattle.fsrm_base.specs.Numbers.{with_number};
 ghost use Rattle.fsrm_base.specs.Keyed.{has_row, is_ascending, with_change};
 ghost use Rattle.fsrm_base.specs.Places.{IsAt};
-ghost use Rattle.fsrm_model.specs.Limits.{latest_moment, most_entries, most_quotas};
-ghost use Rattle.fsrm_model.specs.Quota.{folder_of};
-ghost use Rattle.fsrm_model.specs.Tree.{number as key, chain, is_under};
-ghost use Rattle.fsrm_model.specs.Valid.{IsVolume};
+ghost use Rattle.fsrm_model.specs.values.Limits.{latest_moment, most_entries, most_quotas};
+ghost use Rattle.fsrm_model.specs.objects.Quota.{folder_of};
+ghost use Rattle.fsrm_model.specs.nodes.Tree.{number as key, chain, is_under};
+ghost use Rattle.fsrm_model.specs.store.Valid.{IsVolume};
 ghost use Rattle.fsrm_objects.specs.Tables.{without_quota};
 ghost use Rattle.quota_usage.specs.Charge.{IsChange, Fits, height};
 ghost use Rattle.quota_usage.specs.Counters.{without_counter};

@@ -2,8 +2,8 @@
 
 ghost use Rattle.std.specs.Prelude.{◌≡◌, ◌+◌, ◌≤◌, true, IfOk, OnErr};
 ghost use Rattle.fsrm_model.specs.declared.command.Deed.TheVariants.{File};
-ghost use Rattle.fsrm_model.specs.Cost.{deed_cost};
-ghost use Rattle.fsrm_model.specs.Valued.{is_op, is_command};
+ghost use Rattle.fsrm_model.specs.commands.Cost.{deed_cost};
+ghost use Rattle.fsrm_model.specs.store.Valued.{is_op, is_command};
 ghost use Rattle.fsrm_engine.specs.Machine.{Does, IsReady, IsSound, IsWhole, rows_of};
 ghost use Rattle.fsrm_engine.specs.Memory.{may_want_memory};
 

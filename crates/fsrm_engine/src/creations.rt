@@ -3,9 +3,9 @@
 ghost use Rattle.std.specs.Prelude.{◌≡◌, ◌+◌, ◌*◌, ◌≤◌, true, length, IfErr, IfOk, OnErr, Some};
 ghost use Rattle.fsrm_model.specs.declared.command.Deed.TheVariants.{File};
 ghost use Rattle.fsrm_model.specs.declared.command.FileOp.TheVariants.{Mkdir, Create};
-ghost use Rattle.fsrm_model.specs.Cost.{deed_cost};
-ghost use Rattle.fsrm_model.specs.Limits.{longest_file};
-ghost use Rattle.fsrm_model.specs.Valid.{IsVolume};
+ghost use Rattle.fsrm_model.specs.commands.Cost.{deed_cost};
+ghost use Rattle.fsrm_model.specs.values.Limits.{longest_file};
+ghost use Rattle.fsrm_model.specs.store.Valid.{IsVolume};
 ghost use Rattle.fsrm_engine.specs.Faults.{new_refusal};
 ghost use Rattle.fsrm_engine.specs.Machine.{Does, IsReady, IsSound, rows_of};
 ghost use Rattle.fsrm_engine.specs.Memory.{may_want_memory};

@@ -4,8 +4,8 @@ ghost use Rattle.std.specs.Prelude.{◌≡◌, ℕ, ◌<◌, ◌≤◌, true, le
 ghost use Rattle.std.specs.Option.{option_copied};
 ghost use Rattle.fsrm_base.specs.Keyed.{has_row};
 ghost use Rattle.fsrm_base.specs.Numbers.{is_in, is_set};
-ghost use Rattle.fsrm_model.specs.Limits.{latest_moment, most_entries};
-ghost use Rattle.fsrm_model.specs.Quota.{folder_of};
+ghost use Rattle.fsrm_model.specs.values.Limits.{latest_moment, most_entries};
+ghost use Rattle.fsrm_model.specs.objects.Quota.{folder_of};
 ghost use Rattle.number_set.specs.Numbers.{no_numbers};
 ghost use Rattle.quota_usage.specs.Counters.{used_in};
 ghost use Rattle.thresholds.specs.Marked.{are_there};

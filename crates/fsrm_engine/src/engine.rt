@@ -2,20 +2,20 @@
 
 ghost use Rattle.std.specs.Prelude.{◌≡◌, ◌+◌, ◌*◌, ◌≤◌, [], ◌∷◌, None, true, length, IfOk, IfSome, MatchOption, OnErr};
 ghost use Rattle.fsrm_model.specs.declared.command.Deed.TheVariants.{File, Step};
-ghost use Rattle.fsrm_model.specs.ActText.{text_of};
-ghost use Rattle.fsrm_model.specs.Acts.{IsAct};
-ghost use Rattle.fsrm_model.specs.Capacities.{is_capacity};
-ghost use Rattle.fsrm_model.specs.Cost.{cost};
-ghost use Rattle.fsrm_model.specs.Fresh.{new_rows};
-ghost use Rattle.fsrm_model.specs.Lasting.{lasting};
-ghost use Rattle.fsrm_model.specs.Limits.{latest_moment};
-ghost use Rattle.fsrm_model.specs.Named.{IsNamed};
-ghost use Rattle.fsrm_model.specs.Quota.{used_of};
-ghost use Rattle.fsrm_model.specs.Replays.{finish, finish_acts};
-ghost use Rattle.fsrm_model.specs.Step.{step};
-ghost use Rattle.fsrm_model.specs.Tree.{under};
-ghost use Rattle.fsrm_model.specs.Valid.{IsVolume, IsValid};
-ghost use Rattle.fsrm_model.specs.Valued.{is_op, is_command};
+ghost use Rattle.fsrm_model.specs.texts.ActText.{text_of};
+ghost use Rattle.fsrm_model.specs.objects.Acts.{IsAct};
+ghost use Rattle.fsrm_model.specs.store.Capacities.{is_capacity};
+ghost use Rattle.fsrm_model.specs.commands.Cost.{cost};
+ghost use Rattle.fsrm_model.specs.nodes.Fresh.{new_rows};
+ghost use Rattle.fsrm_model.specs.store.Lasting.{lasting};
+ghost use Rattle.fsrm_model.specs.values.Limits.{latest_moment};
+ghost use Rattle.fsrm_model.specs.meaning.Named.{IsNamed};
+ghost use Rattle.fsrm_model.specs.objects.Quota.{used_of};
+ghost use Rattle.fsrm_model.specs.store.Replays.{finish, finish_acts};
+ghost use Rattle.fsrm_model.specs.commands.Step.{step};
+ghost use Rattle.fsrm_model.specs.nodes.Tree.{under};
+ghost use Rattle.fsrm_model.specs.store.Valid.{IsVolume, IsValid};
+ghost use Rattle.fsrm_model.specs.store.Valued.{is_op, is_command};
 ghost use Rattle.fsrm_engine.specs.Machine.{Takes};
 ghost use Rattle.fsrm_engine.specs.Memory.{may_want_memory};
 

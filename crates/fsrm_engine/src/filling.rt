@@ -1,7 +1,7 @@
 //! Tables that are filled with the rows of a store.
 
 ghost use Rattle.std.specs.Prelude.{◌≡◌, ◌≤◌, [], length};
-ghost use Rattle.fsrm_model.specs.Limits.{most_entries};
+ghost use Rattle.fsrm_model.specs.values.Limits.{most_entries};
 
 use fsrm_model::{ActRow, List};
 use thresholds::Marks;

@@ -1,10 +1,10 @@
 //! Scans that finish at once, as a journal tells.
 
 ghost use Rattle.std.specs.Prelude.{◌≡◌, ◌+◌, ◌*◌, ◌≤◌, length};
-ghost use Rattle.fsrm_model.specs.Limits.{latest_moment};
-ghost use Rattle.fsrm_model.specs.QuotaStates.{state_of};
-ghost use Rattle.fsrm_model.specs.Replays.{finish, finish_acts, is_unfinished};
-ghost use Rattle.fsrm_model.specs.Tree.{under};
+ghost use Rattle.fsrm_model.specs.values.Limits.{latest_moment};
+ghost use Rattle.fsrm_model.specs.objects.QuotaStates.{state_of};
+ghost use Rattle.fsrm_model.specs.store.Replays.{finish, finish_acts, is_unfinished};
+ghost use Rattle.fsrm_model.specs.nodes.Tree.{under};
 ghost use Rattle.fsrm_engine.specs.Machine.{AreMarked, IsIdle, IsSound, IsWhole, rows_of};
 
 use crate::parts::Parts;

@@ -2,9 +2,9 @@
 
 ghost use Rattle.std.specs.Prelude.{◌≡◌, true, map};
 ghost use Rattle.fsrm_base.specs.Keyed.{is_ascending, with_change};
-ghost use Rattle.fsrm_model.specs.Lasting.{flagged_quota, lasting};
-ghost use Rattle.fsrm_model.specs.Quota.{folder_of};
-ghost use Rattle.fsrm_model.specs.QuotaStates.{is_rebuilding};
+ghost use Rattle.fsrm_model.specs.store.Lasting.{flagged_quota, lasting};
+ghost use Rattle.fsrm_model.specs.objects.Quota.{folder_of};
+ghost use Rattle.fsrm_model.specs.objects.QuotaStates.{is_rebuilding};
 ghost use Rattle.fsrm_engine.specs.Machine.{IsWhole, machine_of};
 
 use crate::parts::Parts;

@@ -2,7 +2,7 @@
 
 ghost use Rattle.std.specs.Prelude.{◌≡◌, ◌&&◌, IfOk, OnOk, OnErr, MatchOption, fold, false, true};
 ghost use Rattle.fsrm_base.specs.Numbers.{without_numbers};
-ghost use Rattle.fsrm_model.specs.ScreenWork.{are_named, changed_groups, may_be_taken, numbers_named, with_last};
+ghost use Rattle.fsrm_model.specs.commands.ScreenWork.{are_named, changed_groups, may_be_taken, numbers_named, with_last};
 
 use file_groups::Groups;
 use fsrm_model::{List, NoMemory, Text};

@@ -6,10 +6,10 @@ ghost use Rattle.std.specs.Option.{option_map_or};
 ghost use Rattle.fsrm_base.specs.Numbers.{is_in};
 ghost use Rattle.fsrm_model.specs.declared.command.Deed.TheVariants.{Filegroup};
 ghost use Rattle.fsrm_model.specs.declared.command.FilegroupDeed.TheVariants.{Add as FilegroupAdd, Modify as FilegroupModify, Delete as FilegroupDelete, List as FilegroupList};
-ghost use Rattle.fsrm_model.specs.Commands.{is_new_filegroup, is_filegroup_change};
-ghost use Rattle.fsrm_model.specs.GroupWork.{is_used};
-ghost use Rattle.fsrm_model.specs.Patterns.{is_pattern};
-ghost use Rattle.fsrm_model.specs.Valued.{is_deed};
+ghost use Rattle.fsrm_model.specs.commands.Commands.{is_new_filegroup, is_filegroup_change};
+ghost use Rattle.fsrm_model.specs.commands.GroupWork.{is_used};
+ghost use Rattle.fsrm_model.specs.values.Patterns.{is_pattern};
+ghost use Rattle.fsrm_model.specs.store.Valued.{is_deed};
 ghost use Rattle.fsrm_engine.specs.Machine.{Does, IsReady, IsSound, rows_of};
 ghost use Rattle.fsrm_engine.specs.Memory.{may_want_memory};
 

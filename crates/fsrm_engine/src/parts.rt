@@ -1,9 +1,9 @@
 //! What an engine is made of, and what commands of all kinds do with it.
 
 ghost use Rattle.std.specs.Prelude.{◌≡◌, ◌+◌, ◌*◌, ◌≤◌, [], IfOk, IfErr, OnOk, Some, None, option_map, true};
-ghost use Rattle.fsrm_model.specs.Capacities.{is_capacity};
-ghost use Rattle.fsrm_model.specs.Fresh.{new_rows};
-ghost use Rattle.fsrm_model.specs.Limits.{latest_moment};
+ghost use Rattle.fsrm_model.specs.store.Capacities.{is_capacity};
+ghost use Rattle.fsrm_model.specs.nodes.Fresh.{new_rows};
+ghost use Rattle.fsrm_model.specs.values.Limits.{latest_moment};
 ghost use Rattle.fsrm_model.specs.declared.command.Outcome.TheVariants.{Done};
 ghost use Rattle.quota_usage.specs.Charge.{IsChange, Fits, exceeded_by, height};
 ghost use Rattle.fsrm_engine.specs.Machine.{bare, machine_of, ended, AreCounted, IsWhole};

@@ -4,9 +4,9 @@ ghost use Rattle.std.specs.Prelude.{◌≡◌, ◌+◌, ◌*◌, ◌≤◌, ◌+
 ghost use Rattle.std.specs.List.{join_with_byte};
 ghost use Rattle.std.specs.String.{string_bytes};
 ghost use Rattle.fsrm_base.specs.Keyed.{has_row};
-ghost use Rattle.fsrm_model.specs.Text.{path_text};
-ghost use Rattle.fsrm_model.specs.Tree.{number as key, name_of, chain, path_of};
-ghost use Rattle.fsrm_model.specs.Valid.{IsVolume};
+ghost use Rattle.fsrm_model.specs.texts.Text.{path_text};
+ghost use Rattle.fsrm_model.specs.nodes.Tree.{number as key, name_of, chain, path_of};
+ghost use Rattle.fsrm_model.specs.store.Valid.{IsVolume};
 ghost use Rattle.fsrm_engine.specs.Walk.{AreThere};
 
 use crate::engine::Engine;

@@ -1,9 +1,9 @@
 //! What paths lead to.
 
 ghost use Rattle.std.specs.Prelude.{◌≡◌, ◌+◌, ◌*◌, ◌≤◌, length, IfOk, IfErr, Some};
-ghost use Rattle.fsrm_model.specs.Check.{first};
-ghost use Rattle.fsrm_model.specs.QuotaWork.{quota_checks};
-ghost use Rattle.fsrm_model.specs.Valid.{IsVolume};
+ghost use Rattle.fsrm_model.specs.commands.Check.{first};
+ghost use Rattle.fsrm_model.specs.commands.QuotaWork.{quota_checks};
+ghost use Rattle.fsrm_model.specs.store.Valid.{IsVolume};
 ghost use Rattle.fsrm_engine.specs.Machine.{rows_of};
 ghost use Rattle.fsrm_engine.specs.Places.{IsPlace, IsRefusedPlace, IsFileAt, IsFolderAt, IsQuotaAt};
 

@@ -5,11 +5,11 @@ ghost use Rattle.std.specs.Option.{option_copied};
 ghost use Rattle.fsrm_base.specs.Keyed.{is_ascending};
 ghost use Rattle.fsrm_model.specs.declared.command.Deed.TheVariants.{Template};
 ghost use Rattle.fsrm_model.specs.declared.command.TemplateDeed.TheVariants.{Add as TemplateAdd, Modify as TemplateModify, Delete as TemplateDelete, List as TemplateList};
-ghost use Rattle.fsrm_model.specs.Commands.{is_new_template, is_template_change};
-ghost use Rattle.fsrm_model.specs.Templates.{template_named};
-ghost use Rattle.fsrm_model.specs.TemplateWork.{retemplated};
-ghost use Rattle.fsrm_model.specs.Thresholds.{percent_of};
-ghost use Rattle.fsrm_model.specs.Valued.{is_deed};
+ghost use Rattle.fsrm_model.specs.commands.Commands.{is_new_template, is_template_change};
+ghost use Rattle.fsrm_model.specs.objects.Templates.{template_named};
+ghost use Rattle.fsrm_model.specs.commands.TemplateWork.{retemplated};
+ghost use Rattle.fsrm_model.specs.objects.Thresholds.{percent_of};
+ghost use Rattle.fsrm_model.specs.store.Valued.{is_deed};
 ghost use Rattle.fsrm_engine.specs.Machine.{Does, IsReady, IsSound, IsWhole, rows_of};
 ghost use Rattle.fsrm_engine.specs.Memory.{may_want_memory};
 

@@ -4,12 +4,12 @@ ghost use Rattle.std.specs.Prelude.{◌≡◌, ◌+◌, ◌*◌, ◌≤◌, true
 ghost use Rattle.fsrm_base.specs.Keyed.{is_ascending};
 ghost use Rattle.fsrm_model.specs.declared.command.Deed.TheVariants.{Quota};
 ghost use Rattle.fsrm_model.specs.declared.command.QuotaDeed.TheVariants.{Add as QuotaAdd, Modify as QuotaModify, Delete as QuotaDelete, Scan as QuotaScan, Resetpeak as QuotaResetpeak, List as QuotaList};
-ghost use Rattle.fsrm_model.specs.Commands.{is_new_quota, is_quota_change};
-ghost use Rattle.fsrm_model.specs.Cost.{deed_cost};
-ghost use Rattle.fsrm_model.specs.QuotaStates.{is_disabled};
-ghost use Rattle.fsrm_model.specs.QuotaWork.{new_quota, modified, remarked};
-ghost use Rattle.fsrm_model.specs.Thresholds.{percent_of};
-ghost use Rattle.fsrm_model.specs.Valued.{is_deed};
+ghost use Rattle.fsrm_model.specs.commands.Commands.{is_new_quota, is_quota_change};
+ghost use Rattle.fsrm_model.specs.commands.Cost.{deed_cost};
+ghost use Rattle.fsrm_model.specs.objects.QuotaStates.{is_disabled};
+ghost use Rattle.fsrm_model.specs.commands.QuotaWork.{new_quota, modified, remarked};
+ghost use Rattle.fsrm_model.specs.objects.Thresholds.{percent_of};
+ghost use Rattle.fsrm_model.specs.store.Valued.{is_deed};
 ghost use Rattle.fsrm_engine.specs.Machine.{Does, IsReady, IsSound, IsWhole, rows_of};
 ghost use Rattle.fsrm_engine.specs.Memory.{may_want_memory};
 ghost use Rattle.fsrm_engine.specs.Sources.{IsFirst};

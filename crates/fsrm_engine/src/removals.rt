@@ -3,8 +3,8 @@
 ghost use Rattle.std.specs.Prelude.{◌≡◌, ◌+◌, ◌*◌, ◌≤◌, ◌==◌, true, false, length, Some};
 ghost use Rattle.fsrm_model.specs.declared.command.Deed.TheVariants.{File};
 ghost use Rattle.fsrm_model.specs.declared.command.FileOp.TheVariants.{Remove};
-ghost use Rattle.fsrm_model.specs.Cost.{deed_cost};
-ghost use Rattle.fsrm_model.specs.Tree.{resolve, is_folder};
+ghost use Rattle.fsrm_model.specs.commands.Cost.{deed_cost};
+ghost use Rattle.fsrm_model.specs.nodes.Tree.{resolve, is_folder};
 ghost use Rattle.fsrm_objects.specs.Tables.{without_except, without_screen};
 ghost use Rattle.templates.specs.Held.{without_auto};
 ghost use Rattle.fsrm_engine.specs.Machine.{Does, IsReady, IsSound, rows_of};

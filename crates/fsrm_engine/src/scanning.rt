@@ -2,11 +2,11 @@
 
 ghost use Rattle.std.specs.Prelude.{◌≡◌, ◌+◌, ◌-◌, ◌==◌, ◌≤◌, true, Some, is_some, length};
 ghost use Rattle.fsrm_model.specs.declared.command.Deed.TheVariants.{Step};
-ghost use Rattle.fsrm_model.specs.Cost.{deed_cost, step_cost};
-ghost use Rattle.fsrm_model.specs.Limits.{latest_moment};
-ghost use Rattle.fsrm_model.specs.QuotaStates.{head};
-ghost use Rattle.fsrm_model.specs.Scan.{visits};
-ghost use Rattle.fsrm_model.specs.Tree.{usage};
+ghost use Rattle.fsrm_model.specs.commands.Cost.{deed_cost, step_cost};
+ghost use Rattle.fsrm_model.specs.values.Limits.{latest_moment};
+ghost use Rattle.fsrm_model.specs.objects.QuotaStates.{head};
+ghost use Rattle.fsrm_model.specs.objects.Scan.{visits};
+ghost use Rattle.fsrm_model.specs.nodes.Tree.{usage};
 ghost use Rattle.fsrm_engine.specs.Due.{Finishes};
 ghost use Rattle.fsrm_engine.specs.Machine.{Does, IsIdle, IsReady, IsSound, IsWhole, rows_of};
 

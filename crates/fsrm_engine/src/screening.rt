@@ -4,10 +4,10 @@
 ghost use Rattle.std.specs.Prelude.{◌≡◌, ◌+◌, ◌*◌, ◌≤◌, [], length, true, false, Some, None, MatchOption, option_map, if◌then◌else◌};
 ghost use Rattle.fsrm_model.specs.declared.command.Outcome.TheVariants.{Done};
 ghost use Rattle.fsrm_model.specs.declared.row.ScreenRow.{ScreenRow};
-ghost use Rattle.fsrm_model.specs.Limits.{latest_moment, most_actions, most_entries};
-ghost use Rattle.fsrm_model.specs.Name.{is_name};
-ghost use Rattle.fsrm_model.specs.Screens.{judging};
-ghost use Rattle.fsrm_model.specs.Tree.{chain, is_folder};
+ghost use Rattle.fsrm_model.specs.values.Limits.{latest_moment, most_actions, most_entries};
+ghost use Rattle.fsrm_model.specs.values.Name.{is_name};
+ghost use Rattle.fsrm_model.specs.objects.Screens.{judging};
+ghost use Rattle.fsrm_model.specs.nodes.Tree.{chain, is_folder};
 ghost use Rattle.quota_usage.specs.Charge.{IsChange, Fits, height};
 ghost use Rattle.thresholds.specs.Settled.{are_orderly};
 ghost use Rattle.file_screens.specs.Blocked.{told};

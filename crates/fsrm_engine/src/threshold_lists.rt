@@ -5,7 +5,7 @@ ghost use Rattle.std.specs.List.{list_all};
 ghost use Rattle.fsrm_base.specs.Keyed.{has_row, is_ascending};
 ghost use Rattle.fsrm_base.specs.Numbers.{each_once};
 ghost use Rattle.fsrm_base.specs.Places.{IsAt};
-ghost use Rattle.fsrm_model.specs.Thresholds.{changed_thresholds, may_be_removed, percent_of, with_notice, with_threshold, without_thresholds};
+ghost use Rattle.fsrm_model.specs.objects.Thresholds.{changed_thresholds, may_be_removed, percent_of, with_notice, with_threshold, without_thresholds};
 
 use fsrm_model::{Action, Added, Duplicate, List, NewThresholds, NoMemory, Threshold};
 use fsrm_objects::threshold_place;

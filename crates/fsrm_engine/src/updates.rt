@@ -4,8 +4,8 @@ ghost use Rattle.std.specs.Prelude.{◌≡◌, ◌≤◌, true, flat_map, length
 ghost use Rattle.std.specs.List.{list_all};
 ghost use Rattle.fsrm_base.specs.Keyed.{has_row, is_ascending};
 ghost use Rattle.fsrm_base.specs.Numbers.{is_set};
-ghost use Rattle.fsrm_model.specs.Limits.{latest_moment, most_entries};
-ghost use Rattle.fsrm_model.specs.Quota.{folder_of};
+ghost use Rattle.fsrm_model.specs.values.Limits.{latest_moment, most_entries};
+ghost use Rattle.fsrm_model.specs.objects.Quota.{folder_of};
 ghost use Rattle.thresholds.specs.Marked.{are_there};
 ghost use Rattle.thresholds.specs.Settled.{Settles, are_orderly};
 ghost use Rattle.fsrm_engine.specs.Due.{updated_acts};

@@ -2,11 +2,11 @@
 
 ghost use Rattle.std.specs.Prelude.{◌≡◌, ◌+◌, ◌*◌, ◌^◌, ◌<◌, ◌≤◌, ◌++◌, [], ◌∷◌, true, length, map, sum_by, IfOk, OnErr, OnOk};
 ghost use Rattle.fsrm_model.specs.declared.command.Deed.TheVariants.{Usage};
-ghost use Rattle.fsrm_model.specs.Capacities.{is_capacity};
-ghost use Rattle.fsrm_model.specs.Cost.{deed_cost};
+ghost use Rattle.fsrm_model.specs.store.Capacities.{is_capacity};
+ghost use Rattle.fsrm_model.specs.commands.Cost.{deed_cost};
 ghost use Rattle.fsrm_base.specs.Keyed.{has_row};
-ghost use Rattle.fsrm_model.specs.Tree.{number as key, children_in_order, is_folder, usage, under};
-ghost use Rattle.fsrm_model.specs.Valid.{IsVolume};
+ghost use Rattle.fsrm_model.specs.nodes.Tree.{number as key, children_in_order, is_folder, usage, under};
+ghost use Rattle.fsrm_model.specs.store.Valid.{IsVolume};
 ghost use Rattle.fsrm_engine.specs.Machine.{Does, IsReady, rows_of};
 ghost use Rattle.fsrm_engine.specs.Memory.{may_want_memory};
 ghost use Rattle.fsrm_engine.specs.Walk.{AreThere};

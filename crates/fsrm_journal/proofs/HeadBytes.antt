@@ -5,8 +5,8 @@ use Rattle.std.specs.List.{AllByRecursion}
 use Rattle.std.proofs.lemmas.Bool.{le-leb, eq-eqb, eqb-true}
 use Rattle.fsrm_base.specs.Numbers.{is_in}
 use Rattle.fsrm_base.proofs.TestLaws.{both, eq_is, is_or}
-use Rattle.fsrm_model.specs.Capacities.{cluster_sizes, is_cluster as is_cluster_size}
-use Rattle.fsrm_model.specs.Limits.{most_nodes, most_names}
+use Rattle.fsrm_model.specs.store.Capacities.{cluster_sizes, is_cluster as is_cluster_size}
+use Rattle.fsrm_model.specs.values.Limits.{most_nodes, most_names}
 use Rattle.fsrm_model.proofs.valid.CapacityLaws.{nodes_most, names_most, cluster_is}
 use Rattle.byteorder.specs.Endian.{little_number, little_bytes}
 use Rattle.byteorder.specs.Numbers.{little_number-reads_back}

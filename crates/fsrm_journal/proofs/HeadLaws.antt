@@ -3,8 +3,8 @@ use Rattle.std.proofs.Common.{◌≡◌, ⊎_elim, ℕ, zero, suc, ◌^◌, ◌�
 use Rattle.std.specs.Prelude.{None, Some, cond, ◌&&◌, nat_le}
 use Rattle.std.proofs.lemmas.Bool.{cond-true, cond-false, eqb-true, leb-true}
 use Rattle.fsrm_base.proofs.TestLaws.{both, both_true, is_or}
-use Rattle.fsrm_model.specs.Capacities.{is_capacity, is_cluster as is_cluster_size}
-use Rattle.fsrm_model.specs.Limits.{most_nodes, most_names}
+use Rattle.fsrm_model.specs.store.Capacities.{is_capacity, is_cluster as is_cluster_size}
+use Rattle.fsrm_model.specs.values.Limits.{most_nodes, most_names}
 use Rattle.fsrm_journal.specs.Heads.{first_failed, head_tests, head_fault, half_fault, is_open, is_version, is_cluster, has_generation, has_version, has_nodes, has_names, has_cluster, has_image, generation_at, version_at, nodes_at, names_at, cluster_at, image_at}
 use Rattle.fsrm_journal.specs.HeadSays.{head_says}
 use Rattle.fsrm_journal.specs.Legal.{IsLegal}

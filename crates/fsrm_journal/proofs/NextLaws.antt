@@ -7,7 +7,7 @@ use Rattle.std.proofs.lemmas.List.{drop_at, get_or-append_right}
 use Rattle.byteorder.specs.Endian.{little_number, little_bytes}
 use Rattle.byteorder.specs.Numbers.{little_number-reads_back}
 use Rattle.fsrm_base.proofs.TestLaws.{both_true}
-use Rattle.fsrm_model.specs.Limits.{longest_entry}
+use Rattle.fsrm_model.specs.values.Limits.{longest_entry}
 use Rattle.fsrm_journal.specs.Next.{length_at, has_length, next_length, with_body, record_at}
 use Rattle.fsrm_outside.specs.Parts.{Parts, part_of}
 use Rattle.fsrm_journal.specs.Records.{counted, records, Log, Holds}

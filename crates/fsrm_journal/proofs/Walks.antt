@@ -5,7 +5,7 @@ use Rattle.std.proofs.lemmas.Bool.{le-leb, lt-ltb, eq-eqb, leb-true, ltb-true, e
 use Rattle.std.proofs.lemmas.List.{append-nil, take_at, drop_at, take-take, drop-take, drop_more, get_or-take}
 use Rattle.byteorder.specs.Endian.{little_number, little_bytes}
 use Rattle.byteorder.specs.Numbers.{little_from-take}
-use Rattle.fsrm_model.specs.Limits.{longest_entry}
+use Rattle.fsrm_model.specs.values.Limits.{longest_entry}
 use Rattle.fsrm_journal.specs.Next.{length_at, has_length, next_length, with_body, record_at}
 use Rattle.fsrm_outside.specs.Parts.{Parts, part_of}
 use Rattle.fsrm_outside.specs.declared.traits.Part.{Part}

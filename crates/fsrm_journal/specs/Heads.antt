@@ -1,8 +1,8 @@
 -- Heads of halves, and which half rules. A head is the first 48 bytes of a half, or all if there are fewer.
 use Rattle.std.specs.Prelude.{ℕ, Bool, ◌&&◌, ◌||◌, not, cond, if◌then◌else◌, nat_le, nat_lt, nat_eq, Option, None, Some, Result, Ok, Err, List, [], ◌∷◌, length, take, drop, slice_index}
 use Rattle.byteorder.specs.Endian.{little_number}
-use Rattle.fsrm_model.specs.Capacities.{is_cluster as is_cluster_size}
-use Rattle.fsrm_model.specs.Limits.{most_nodes, most_names}
+use Rattle.fsrm_model.specs.store.Capacities.{is_cluster as is_cluster_size}
+use Rattle.fsrm_model.specs.values.Limits.{most_nodes, most_names}
 use Rattle.fsrm_outside.specs.declared.traits.Part.{Part}
 use Rattle.fsrm_outside.specs.declared.traits.Part.TheVariants.{Zero, One}
 use Rattle.fsrm_journal.specs.declared.fault.JournalFault.{JournalFault}

@@ -1,6 +1,6 @@
 -- Which heads a half may have.
 use Rattle.std.specs.Prelude.{◌≡◌, ◌^◌, ◌≤◌, ◌<◌, true}
-use Rattle.fsrm_model.specs.Capacities.{is_capacity}
+use Rattle.fsrm_model.specs.store.Capacities.{is_capacity}
 use Rattle.fsrm_journal.specs.Heads.{is_version, is_cluster}
 use Rattle.fsrm_journal.specs.declared.heads.Head.{Head}
 

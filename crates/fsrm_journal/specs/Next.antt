@@ -1,7 +1,7 @@
 -- The record that stands at a place of a half.
 use Rattle.std.specs.Prelude.{◌≡◌, ℕ, ◌+◌, Bool, ◌&&◌, not, if◌then◌else◌, nat_le, nat_lt, nat_eq, Option, None, Some, Result, Ok, Err, List, length, drop, slice_index}
 use Rattle.byteorder.specs.Endian.{little_number}
-use Rattle.fsrm_model.specs.Limits.{longest_entry}
+use Rattle.fsrm_model.specs.values.Limits.{longest_entry}
 use Rattle.fsrm_outside.specs.declared.traits.Part.{Part}
 use Rattle.fsrm_journal.specs.declared.fault.JournalFault.{JournalFault}
 use Rattle.fsrm_journal.specs.declared.fault.JournalFault.TheVariants.{NoStore, AlreadyStore, Damaged, DiskFault, NoMemory}

@@ -1,6 +1,6 @@
 -- What a reader comes to in a half.
 use Rattle.std.specs.Prelude.{◌≡◌, ◌⊎◌, ℕ, ◌+◌, ◌≤◌, Option, None, Some, Ok, List, [], ◌∷◌, length, take, drop}
-use Rattle.fsrm_model.specs.Limits.{longest_entry}
+use Rattle.fsrm_model.specs.values.Limits.{longest_entry}
 use Rattle.fsrm_outside.specs.Parts.{Parts, part_of, other}
 use Rattle.fsrm_outside.specs.declared.traits.Part.{Part}
 use Rattle.fsrm_journal.specs.Next.{record_at}

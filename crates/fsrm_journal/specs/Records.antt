@@ -1,7 +1,7 @@
 -- Records in a half: each is a gate, the length of its body in four bytes, the body, and then comes the next gate.
 use Rattle.std.specs.Prelude.{◌≡◌, ◌≢◌, ◌⊎◌, ℕ, ◌+◌, Option, Some, List, [], ◌∷◌, ◌++◌, length}
 use Rattle.byteorder.specs.Endian.{little_bytes}
-use Rattle.fsrm_model.specs.Limits.{longest_entry}
+use Rattle.fsrm_model.specs.values.Limits.{longest_entry}
 use Rattle.fsrm_outside.specs.Parts.{Parts, part_of, other}
 use Rattle.fsrm_outside.specs.declared.traits.Part.{Part}
 

@@ -2,7 +2,7 @@
 
 ghost use Rattle.std.specs.Prelude.{◌≡◌, ◌≢◌, ◌≤◌, length, drop, IsTrue, Err};
 ghost use Rattle.byteorder.specs.Endian.{little_number};
-ghost use Rattle.fsrm_model.specs.Capacities.{is_cluster as is_cluster_size};
+ghost use Rattle.fsrm_model.specs.store.Capacities.{is_cluster as is_cluster_size};
 ghost use Rattle.fsrm_journal.specs.HeadSays.{head_says};
 ghost use Rattle.fsrm_journal.specs.declared.fault.JournalFault.TheVariants.{AlreadyStore};
 ghost use Rattle.fsrm_journal.specs.Heads.{head_fault, half_fault, has_zeros, has_magic, has_generation, has_version, has_nodes, has_names, has_cluster, has_image, is_cluster, is_open, is_version, judged, ruling, generation_at};

@@ -3,7 +3,7 @@
 ghost use Rattle.std.specs.Prelude.{◌≡◌, ◌≢◌, ◌⊎◌, ◌≤◌, ◌<◌, ◌+◌, ◌-◌, ◌*◌, ◌^◌, ℕ, List, [], ◌∷◌, ◌++◌, length, take, drop, slice_index, vec_capacity, true, false, Ok, Err, None, Some, IfOk, IfSome, IfErr, IsErrOf, OnOk, OnErr};
 ghost use Rattle.byteorder.specs.Endian.{little_bytes};
 ghost use Rattle.std.specs.Option.{ForSome};
-ghost use Rattle.fsrm_model.specs.Limits.{longest_entry};
+ghost use Rattle.fsrm_model.specs.values.Limits.{longest_entry};
 ghost use Rattle.fsrm_outside.specs.Causes.{HasCause, Rose};
 ghost use Rattle.fsrm_outside.specs.Changes.{Same, Through};
 ghost use Rattle.fsrm_journal.specs.HeadSays.{head_says};

@@ -1,7 +1,7 @@
 //! What the definitions of the journal say together.
 
 ghost use Rattle.std.specs.Prelude.{◌≡◌, ◌≤◌, ◌+◌, ℕ, List, [], ◌∷◌, ◌++◌, All, Ok, Some, None, length};
-ghost use Rattle.fsrm_model.specs.Limits.{longest_entry};
+ghost use Rattle.fsrm_model.specs.values.Limits.{longest_entry};
 ghost use Rattle.fsrm_outside.specs.Parts.{Parts, part_of, other};
 ghost use Rattle.fsrm_journal.specs.Next.{record_at};
 ghost use Rattle.fsrm_journal.specs.Halves.{Certain, Filling, Knows};

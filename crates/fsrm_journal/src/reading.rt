@@ -3,7 +3,7 @@
 ghost use Rattle.std.specs.Prelude.{◌≡◌, ◌⊎◌, ◌≤◌, ◌<◌, ◌+◌, ◌^◌, ℕ, length, drop, slice_index, Err, IfOk, IfSome, IsErrOf, OnErr};
 ghost use Rattle.byteorder.specs.Endian.{little_number};
 ghost use Rattle.std.specs.Option.{ForSome};
-ghost use Rattle.fsrm_model.specs.Limits.{longest_entry};
+ghost use Rattle.fsrm_model.specs.values.Limits.{longest_entry};
 ghost use Rattle.fsrm_outside.specs.Causes.{HasCause, Rose};
 ghost use Rattle.fsrm_journal.specs.Next.{next_length, Tells};
 ghost use Rattle.fsrm_journal.specs.declared.fault.JournalFault.TheVariants.{Damaged, DiskFault};

@@ -7,7 +7,7 @@ use Rattle.jiff_core.specs.Calendar.{days_in_year, days_in_month, day_count, day
 use Rattle.jiff_core.proofs.CalendarLemmas.{day_count-epoch, days_from_civil-day_count, day_count-next_year, day_count-next_month, day_count-day, day_count-last_of_year, day_count-lt_year, day_count-lt_month}
 use Rattle.jiff_core.proofs.MarchLemmas.{day_count-early}
 use Rattle.jiff_core.proofs.SignedLemmas.{signed_arith}
-use Rattle.fsrm_model.specs.Date.{Civil, in_months, in_years, date_of}
+use Rattle.fsrm_model.specs.values.Date.{Civil, in_months, in_years, date_of}
 
 -- a date of the calendar, from 1970 to 2099, that comes so many days after the calendar's first
 pub record IsDayOf (place : ℕ) (date : Civil) : Type 0 where

@@ -8,8 +8,8 @@ use Rattle.std.proofs.lemmas.List.Sums.{fails_before_first, passes_at_first, pre
 use Rattle.std.proofs.lemmas.Option.{same_Some}
 use Rattle.std.proofs.lemmas.Str.{IsCharBoundary-before_ascii, IsCharBoundary-after_ascii}
 use Rattle.fsrm_base.proofs.TestLaws.{eq_is, ge_is, lt_is}
-use Rattle.fsrm_model.specs.Reading.{is_backslash, without_last_empty}
-use Rattle.fsrm_model.specs.PathNames.{parts_of}
+use Rattle.fsrm_model.specs.lines.Reading.{is_backslash, without_last_empty}
+use Rattle.fsrm_model.specs.meaning.PathNames.{parts_of}
 
 -- the place of the first backslash, if there is one
 pub place_is : (text : List ℕ) (end : ℕ) → Some end ≡ position is_backslash text → (end ≡ position_or_len is_backslash text) × (end < length text)

@@ -1,7 +1,7 @@
 //! Commands and what becomes of them.
 
 ghost use Rattle.std.specs.Prelude.{◌≡◌};
-ghost use Rattle.fsrm_model.specs.Acts.{folder_in, percent_in};
+ghost use Rattle.fsrm_model.specs.objects.Acts.{folder_in, percent_in};
 
 use crate::boxed::Boxed;
 use crate::path::Path;

@@ -2,7 +2,7 @@
 //! definitions.
 
 ghost use Rattle.std.specs.Prelude.{◌≡◌};
-ghost use Rattle.fsrm_model.specs.Limits.{latest_moment, longest_file, last_owner, longest_line, longest_path, longest_entry, longest_script, longest_name, most_nodes, most_names, least_limit, greatest_limit, most_quotas, greatest_percent, most_thresholds, most_actions, longest_action_text, most_minutes, most_entries, most_templates, most_autos, most_excluded, most_groups, most_patterns, most_screens, most_excepts, most_screen_groups, most_text_bytes, most_visits};
+ghost use Rattle.fsrm_model.specs.values.Limits.{latest_moment, longest_file, last_owner, longest_line, longest_path, longest_entry, longest_script, longest_name, most_nodes, most_names, least_limit, greatest_limit, most_quotas, greatest_percent, most_thresholds, most_actions, longest_action_text, most_minutes, most_entries, most_templates, most_autos, most_excluded, most_groups, most_patterns, most_screens, most_excepts, most_screen_groups, most_text_bytes, most_visits};
 
 /// The greatest moment: 2099-12-31 23:59:59 UTC, in seconds since 1970-01-01 00:00:00 UTC.
 pub const LATEST_MOMENT: u64 = 4_102_444_799;

@@ -4,9 +4,9 @@ ghost use Rattle.std.specs.Prelude.{◌≡◌, ◌<◌, ◌∷◌, true, length,
 ghost use Rattle.std.specs.List.{list_all};
 ghost use Rattle.std.specs.Str.{IsCharBoundary};
 ghost use Rattle.std.specs.String.{string_bytes};
-ghost use Rattle.fsrm_model.specs.Name.{is_name};
-ghost use Rattle.fsrm_model.specs.PathNames.{parts_of, left};
-ghost use Rattle.fsrm_model.specs.Reading.{is_backslash};
+ghost use Rattle.fsrm_model.specs.values.Name.{is_name};
+ghost use Rattle.fsrm_model.specs.meaning.PathNames.{parts_of, left};
+ghost use Rattle.fsrm_model.specs.lines.Reading.{is_backslash};
 
 use fsrm_base::{Duplicate, NoMemory};
 use std::alloc::Global;
@@ -29,8 +29,8 @@ impl Model for Path {
     ghost use Rattle.std.specs.Prelude.{◌≡◌, true, length};
     ghost use Rattle.std.specs.List.{list_all};
     ghost use Rattle.std.specs.String.{string_bytes};
-    ghost use Rattle.fsrm_model.specs.Name.{is_name};
-    ghost use Rattle.fsrm_model.specs.PathNames.{parts_of};
+    ghost use Rattle.fsrm_model.specs.values.Name.{is_name};
+    ghost use Rattle.fsrm_model.specs.meaning.PathNames.{parts_of};
 
     ghost view = { λ p. parts_of (string_bytes p.text) };
 
@@ -83,7 +83,7 @@ pub struct Names<'a> {
 
 impl<'a> Iterator for Names<'a> {
     ghost use Rattle.std.specs.Iterator.{YieldsFirstRef, item_count};
-    ghost use Rattle.fsrm_model.specs.PathNames.{left};
+    ghost use Rattle.fsrm_model.specs.meaning.PathNames.{left};
 
     type Item = &'a str;
 

@@ -6,8 +6,8 @@
 //! by number or folder, and have each at most once; logs begin with the oldest entry.
 
 ghost use Rattle.std.specs.Prelude.{◌≡◌};
-ghost use Rattle.fsrm_model.specs.ActionWords.{kind_word};
-ghost use Rattle.fsrm_model.specs.Quota.{is_complete};
+ghost use Rattle.fsrm_model.specs.texts.ActionWords.{kind_word};
+ghost use Rattle.fsrm_model.specs.objects.Quota.{is_complete};
 
 use fsrm_base::{List, Text};
 

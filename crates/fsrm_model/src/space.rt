@@ -1,9 +1,9 @@
 //! The space that a file takes on the disk.
 
 ghost use Rattle.std.specs.Prelude.{◌≡◌, ◌≤◌, true};
-ghost use Rattle.fsrm_model.specs.Capacities.{is_cluster};
-ghost use Rattle.fsrm_model.specs.Limits.{longest_file};
-ghost use Rattle.fsrm_model.specs.Space.{rounded};
+ghost use Rattle.fsrm_model.specs.store.Capacities.{is_cluster};
+ghost use Rattle.fsrm_model.specs.values.Limits.{longest_file};
+ghost use Rattle.fsrm_model.specs.values.Space.{rounded};
 
 /// A file's length in bytes, up to 17,592,185,978,880, rounded up to whole clusters of so many bytes.
 pub fn allocated(bytes: u64, cluster: u32) -> u64

@@ -5,11 +5,11 @@ use Rattle.fsrm_model.specs.declared.row.QuotaRow.{QuotaRow}
 use Rattle.fsrm_model.specs.declared.row.ScreenRow.{ScreenRow}
 use Rattle.fsrm_base.specs.Causes.{◌when◌, first}
 use Rattle.fsrm_base.specs.Keyed.{has_row, row_of}
-use Rattle.fsrm_model.specs.Limits.{most_quotas, most_screens, most_excepts, most_screen_groups}
-use Rattle.fsrm_model.specs.Quota.{folder_of}
-use Rattle.fsrm_model.specs.Screens.{screen_folder, except_folder}
-use Rattle.fsrm_model.specs.Texts.{quota_bytes}
-use Rattle.fsrm_model.specs.Thresholds.{are_too_many}
+use Rattle.fsrm_model.specs.values.Limits.{most_quotas, most_screens, most_excepts, most_screen_groups}
+use Rattle.fsrm_model.specs.objects.Quota.{folder_of}
+use Rattle.fsrm_model.specs.objects.Screens.{screen_folder, except_folder}
+use Rattle.fsrm_model.specs.values.Texts.{quota_bytes}
+use Rattle.fsrm_model.specs.objects.Thresholds.{are_too_many}
 use Rattle.fsrm_base.proofs.TestLaws.{gt_is, lt_test, not_lt}
 use Rattle.fsrm_objects.specs.declared.answer.ObjectFault.TheVariants.{AlreadyExists, InvalidCombination, OutOfRange, TableFull, TextsFull}
 use Rattle.fsrm_objects.specs.Tables.{Tables, except_fault, is_long_screen, other_fault, other_screen_fault, quota_fault, screen_bytes, screen_fault, screen_texts_at, texts_at}

@@ -4,11 +4,11 @@ use Rattle.std.specs.List.{list_all, list_any}
 use Rattle.fsrm_model.specs.declared.row.Action.{Action}
 use Rattle.fsrm_model.specs.declared.row.QuotaRow.{QuotaRow}
 use Rattle.fsrm_model.specs.declared.row.Threshold.{Threshold}
-use Rattle.fsrm_model.specs.Limits.{longest_action_text}
-use Rattle.fsrm_model.specs.Quota.{folder_of}
-use Rattle.fsrm_model.specs.Templates.{is_derived, without_source}
-use Rattle.fsrm_model.specs.Texts.{action_bytes, quota_bytes}
-use Rattle.fsrm_model.specs.Thresholds.{are_too_many, is_crowded}
+use Rattle.fsrm_model.specs.values.Limits.{longest_action_text}
+use Rattle.fsrm_model.specs.objects.Quota.{folder_of}
+use Rattle.fsrm_model.specs.objects.Templates.{is_derived, without_source}
+use Rattle.fsrm_model.specs.values.Texts.{action_bytes, quota_bytes}
+use Rattle.fsrm_model.specs.objects.Thresholds.{are_too_many, is_crowded}
 use Rattle.fsrm_base.proofs.Sums.{sum_by_within}
 use Rattle.fsrm_base.proofs.TestLaws.{both, both_true, ge_is, le_is, le_test, neither}
 use Rattle.fsrm_objects.specs.Kept.{most_quota_bytes}

@@ -11,8 +11,8 @@ use Rattle.fsrm_base.proofs.TestLaws.{clash}
 use Rattle.fsrm_model.specs.declared.row.Action.{Action}
 use Rattle.fsrm_model.specs.declared.row.QuotaRow.{QuotaRow}
 use Rattle.fsrm_model.specs.declared.row.Threshold.{Threshold}
-use Rattle.fsrm_model.specs.Texts.{action_bytes, quota_bytes, threshold_bytes}
-use Rattle.fsrm_model.specs.Thresholds.{actions_at, percent_of}
+use Rattle.fsrm_model.specs.values.Texts.{action_bytes, quota_bytes, threshold_bytes}
+use Rattle.fsrm_model.specs.objects.Thresholds.{actions_at, percent_of}
 use Rattle.fsrm_objects.specs.Tables.{ran_at, run_threshold_at, run_quota_at}
 
 -- the action at a place, changed there

@@ -1,7 +1,7 @@
 -- A screen whose lists and texts aren't too long has few bytes of texts, and a run changes none.
 use Rattle.std.proofs.Common.{◌≡◌, ℕ, ◌≤◌, nat_lt, nat_le, true, false, length}
 use Rattle.fsrm_model.specs.declared.row.ScreenRow.{ScreenRow}
-use Rattle.fsrm_model.specs.Limits.{most_actions, most_screen_groups}
+use Rattle.fsrm_model.specs.values.Limits.{most_actions, most_screen_groups}
 use Rattle.fsrm_base.proofs.TestLaws.{ge_is, le_test, neither}
 use Rattle.fsrm_objects.specs.Kept.{most_screen_bytes}
 use Rattle.fsrm_objects.specs.Tables.{has_short_actions, is_long_screen, run_screen_at, screen_bytes}

@@ -5,10 +5,10 @@ use Rattle.fsrm_model.specs.declared.row.ExceptRow.{ExceptRow}
 use Rattle.fsrm_model.specs.declared.row.QuotaRow.{QuotaRow}
 use Rattle.fsrm_model.specs.declared.row.ScreenRow.{ScreenRow}
 use Rattle.fsrm_base.specs.Keyed.{is_ascending}
-use Rattle.fsrm_model.specs.Limits.{most_quotas, most_screens, most_excepts, most_thresholds, most_actions, longest_action_text}
-use Rattle.fsrm_model.specs.Quota.{folder_of}
-use Rattle.fsrm_model.specs.Screens.{screen_folder, except_folder}
-use Rattle.fsrm_model.specs.Texts.{quota_bytes}
+use Rattle.fsrm_model.specs.values.Limits.{most_quotas, most_screens, most_excepts, most_thresholds, most_actions, longest_action_text}
+use Rattle.fsrm_model.specs.objects.Quota.{folder_of}
+use Rattle.fsrm_model.specs.objects.Screens.{screen_folder, except_folder}
+use Rattle.fsrm_model.specs.values.Texts.{quota_bytes}
 use Rattle.fsrm_objects.specs.Tables.{Tables, quota_texts, screen_bytes, screen_texts}
 
 -- the bytes of the texts of a quota and of a screen whose lists and texts are as long as they may be

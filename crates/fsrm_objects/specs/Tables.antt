@@ -10,12 +10,12 @@ use Rattle.fsrm_model.specs.declared.row.QuotaRow.{QuotaRow}
 use Rattle.fsrm_model.specs.declared.row.QuotaState.{QuotaState}
 use Rattle.fsrm_model.specs.declared.row.ScreenRow.{ScreenRow}
 use Rattle.fsrm_model.specs.declared.row.Threshold.{Threshold}
-use Rattle.fsrm_model.specs.Limits.{most_quotas, most_screens, most_excepts, most_screen_groups, most_actions, longest_action_text}
-use Rattle.fsrm_model.specs.Quota.{folder_of}
-use Rattle.fsrm_model.specs.QuotaStates.{in_state}
-use Rattle.fsrm_model.specs.Screens.{screen_folder, except_folder}
-use Rattle.fsrm_model.specs.Texts.{action_bytes, quota_bytes}
-use Rattle.fsrm_model.specs.Thresholds.{percent_of, actions_at, are_too_many}
+use Rattle.fsrm_model.specs.values.Limits.{most_quotas, most_screens, most_excepts, most_screen_groups, most_actions, longest_action_text}
+use Rattle.fsrm_model.specs.objects.Quota.{folder_of}
+use Rattle.fsrm_model.specs.objects.QuotaStates.{in_state}
+use Rattle.fsrm_model.specs.objects.Screens.{screen_folder, except_folder}
+use Rattle.fsrm_model.specs.values.Texts.{action_bytes, quota_bytes}
+use Rattle.fsrm_model.specs.objects.Thresholds.{percent_of, actions_at, are_too_many}
 use Rattle.fsrm_objects.specs.declared.answer.ObjectFault.{ObjectFault}
 use Rattle.fsrm_objects.specs.declared.answer.ObjectFault.TheVariants.{AlreadyExists, InvalidCombination, OutOfRange, TableFull, TextsFull, NoMemory}
 

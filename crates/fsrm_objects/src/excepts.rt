@@ -4,7 +4,7 @@ ghost use Rattle.std.specs.Prelude.{◌≡◌, ◌<◌, IfErr, MatchOption, OnOk
 ghost use Rattle.std.specs.Option.{option_copied};
 ghost use Rattle.fsrm_base.specs.Keyed.{row_of, has_row};
 ghost use Rattle.fsrm_base.specs.Places.{IsAt};
-ghost use Rattle.fsrm_model.specs.Screens.{except_folder};
+ghost use Rattle.fsrm_model.specs.objects.Screens.{except_folder};
 ghost use Rattle.fsrm_objects.specs.Tables.{IsFault, except_fault, with_except, without_except};
 
 use crate::answer::ObjectFault;

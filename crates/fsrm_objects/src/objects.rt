@@ -3,10 +3,10 @@
 ghost use Rattle.std.specs.Prelude.{◌≡◌, ◌<◌, ◌≤◌, IfOk, IfErr, IsErrOf, MatchOption, OnOk, OnErr, [], None, Some, true, false, length, map, slice_get};
 ghost use Rattle.std.specs.Option.{option_copied};
 ghost use Rattle.fsrm_base.specs.Keyed.{row_of, has_row};
-ghost use Rattle.fsrm_model.specs.Limits.{most_quotas};
-ghost use Rattle.fsrm_model.specs.Quota.{folder_of};
-ghost use Rattle.fsrm_model.specs.Templates.{without_source};
-ghost use Rattle.fsrm_model.specs.Texts.{quota_bytes};
+ghost use Rattle.fsrm_model.specs.values.Limits.{most_quotas};
+ghost use Rattle.fsrm_model.specs.objects.Quota.{folder_of};
+ghost use Rattle.fsrm_model.specs.objects.Templates.{without_source};
+ghost use Rattle.fsrm_model.specs.values.Texts.{quota_bytes};
 ghost use Rattle.fsrm_base.specs.Places.{IsAt};
 ghost use Rattle.fsrm_objects.specs.Kept.{AreSmallQuotas};
 ghost use Rattle.fsrm_objects.specs.Tables.{IsFault, has_short_texts, HasAction, other_fault, quota_fault, texts_in, with_quota, with_other, with_peak, with_run, with_state, without_quota};

@@ -3,7 +3,7 @@
 ghost use Rattle.std.specs.Prelude.{◌≡◌, true, IfErr, IfOk};
 ghost use Rattle.fsrm_base.specs.Keyed.{is_ascending};
 ghost use Rattle.fsrm_base.specs.Places.{IsAt, IsGap};
-ghost use Rattle.fsrm_model.specs.Thresholds.{percent_of};
+ghost use Rattle.fsrm_model.specs.objects.Thresholds.{percent_of};
 
 use fsrm_base::places::{Key, search};
 use fsrm_model::Threshold;
@@ -12,7 +12,7 @@ use fsrm_model::Threshold;
 struct ByPercent;
 
 impl Key for ByPercent {
-    ghost use Rattle.fsrm_model.specs.Thresholds.{percent_of};
+    ghost use Rattle.fsrm_model.specs.objects.Thresholds.{percent_of};
 
     type Row = Threshold;
 

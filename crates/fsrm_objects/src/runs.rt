@@ -2,7 +2,7 @@
 
 ghost use Rattle.std.specs.Prelude.{◌≡◌, ◌<◌, true, length};
 ghost use Rattle.fsrm_base.specs.Keyed.{is_ascending, with_change};
-ghost use Rattle.fsrm_model.specs.Thresholds.{actions_at, percent_of};
+ghost use Rattle.fsrm_model.specs.objects.Thresholds.{actions_at, percent_of};
 ghost use Rattle.fsrm_objects.specs.Tables.{ran_at, run_threshold_at};
 
 use crate::percents::threshold_place;

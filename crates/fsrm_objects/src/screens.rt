@@ -4,7 +4,7 @@ ghost use Rattle.std.specs.Prelude.{◌≡◌, ◌<◌, IfOk, IfErr, MatchOption
 ghost use Rattle.std.specs.Option.{option_copied};
 ghost use Rattle.fsrm_base.specs.Keyed.{row_of, has_row};
 ghost use Rattle.fsrm_base.specs.Places.{IsAt};
-ghost use Rattle.fsrm_model.specs.Screens.{screen_folder};
+ghost use Rattle.fsrm_model.specs.objects.Screens.{screen_folder};
 ghost use Rattle.fsrm_objects.specs.Tables.{IsFault, HasScreenAction, has_short_actions, other_screen_fault, screen_bytes, screen_fault, with_other_screen, with_screen, with_screen_run, without_screen};
 
 use crate::answer::ObjectFault;

@@ -1,7 +1,7 @@
 //! The templates of which quotas were derived.
 
 ghost use Rattle.std.specs.Prelude.{◌≡◌, map};
-ghost use Rattle.fsrm_model.specs.Templates.{without_source};
+ghost use Rattle.fsrm_model.specs.objects.Templates.{without_source};
 
 use fsrm_model::QuotaRow;
 

@@ -2,8 +2,8 @@
 
 ghost use Rattle.std.specs.Prelude.{◌≡◌, ◌+◌, ◌<◌, ◌^◌, MatchOption};
 ghost use Rattle.std.specs.List.{list_any};
-ghost use Rattle.fsrm_model.specs.Texts.{action_bytes, threshold_bytes};
-ghost use Rattle.fsrm_model.specs.Thresholds.{are_too_many, is_crowded};
+ghost use Rattle.fsrm_model.specs.values.Texts.{action_bytes, threshold_bytes};
+ghost use Rattle.fsrm_model.specs.objects.Thresholds.{are_too_many, is_crowded};
 ghost use Rattle.fsrm_objects.specs.Tables.{is_long_screen};
 
 use fsrm_base::room::left_of_text;

@@ -6,7 +6,7 @@ use Rattle.std.proofs.lemmas.List.{take_min, take_all, length-drop, nil_from_len
 use Rattle.std.proofs.Math.Seq.{take-append-add}
 use Rattle.std.proofs.lemmas.Bool.{eqb-true, eq-eqb, both_ways}
 use Rattle.memchr.specs.Find.{IsFirstByte, is_byte}
-use Rattle.fsrm_model.specs.Script.{is_end}
+use Rattle.fsrm_model.specs.lines.Script.{is_end}
 use Rattle.fsrm_program.specs.Bytes.{CutsLine}
 use Rattle.fsrm_base.proofs.TestLaws.{nor, not_true}
 

@@ -1,7 +1,7 @@
 -- The CR at the end of a line.
 use Rattle.std.proofs.Common.{◌≡◌, ℕ, suc, ◌-◌, ◌==◌, Bool, true, false, List, [], ◌∷◌, length, take, drop, refl, sym, ap, ◌∙◌, arith}
 use Rattle.std.specs.Prelude.{nat_eq}
-use Rattle.fsrm_model.specs.Script.{without_cr}
+use Rattle.fsrm_model.specs.lines.Script.{without_cr}
 use lib.Pointwise.{pointwise}
 
 one_byte : (b : ℕ) → (test : Bool) → (b == 13) ≡ test → pointwise nat_eq (b ∷ []) (13 ∷ []) ≡ test

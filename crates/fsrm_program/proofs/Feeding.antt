@@ -8,7 +8,7 @@ use Rattle.std.proofs.lemmas.List.{append-nil, nil_from_length, take_all, length
 use Rattle.std.proofs.lemmas.List.Folds.{list_any-append}
 use Rattle.fsrm_model.specs.declared.row.Capacity.{Capacity}
 use Rattle.fsrm_model.specs.declared.row.Rows.{Rows}
-use Rattle.fsrm_model.specs.Script.{is_end, lines, spelled_lines, Replied, replied, text_from, fold_from, line_cost, cost_from}
+use Rattle.fsrm_model.specs.lines.Script.{is_end, lines, spelled_lines, Replied, replied, text_from, fold_from, line_cost, cost_from}
 use Rattle.fsrm_model.proofs.lines.ScriptLaws.{lines_last, spelled_lines-append, AreLines-append, replied-held, line_cost-held, text_from-append, fold_from-append, cost_from-append}
 use Rattle.fsrm_outside.specs.Shown.{IsFront, ShowsFront}
 use Rattle.fsrm_outside.proofs.Shown.{append_known-nil, shows_then}

@@ -2,7 +2,7 @@
 use Rattle.std.proofs.Common.{◌≡◌, ℕ, ◌+◌, ◌-◌, ◌≤◌, List, length, sym, subst, arith}
 use Rattle.std.specs.Prelude.{Option, Result, Ok, Err, IsErrOf}
 use Rattle.std.specs.Result.{IsErrAnd}
-use Rattle.fsrm_model.specs.Limits.{longest_script}
+use Rattle.fsrm_model.specs.values.Limits.{longest_script}
 use Rattle.reply_text.specs.declared.fault.TextFault.{TextFault}
 use Rattle.reply_text.specs.declared.fault.TextFault.TheVariants.{WriteFault as WriteFailed, NoMemory as MemoryOut}
 use Rattle.reply_text.specs.Writes.{KeepsCount}

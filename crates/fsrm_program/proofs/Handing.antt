@@ -11,18 +11,18 @@ use Rattle.fsrm_model.specs.declared.command.Outcome.{Outcome}
 use Rattle.fsrm_model.specs.declared.row.Capacity.{Capacity}
 use Rattle.fsrm_model.specs.declared.row.NodeRow.{NodeRow}
 use Rattle.fsrm_model.specs.declared.row.Rows.{Rows}
-use Rattle.fsrm_model.specs.Acts.{folder_in}
-use Rattle.fsrm_model.specs.ActText.{act_line, act_lines}
-use Rattle.fsrm_model.specs.Cost.{acts_cost, cost, path_cost, print_cost}
-use Rattle.fsrm_model.specs.Script.{replied_to, read_cost}
+use Rattle.fsrm_model.specs.objects.Acts.{folder_in}
+use Rattle.fsrm_model.specs.texts.ActText.{act_line, act_lines}
+use Rattle.fsrm_model.specs.commands.Cost.{acts_cost, cost, path_cost, print_cost}
+use Rattle.fsrm_model.specs.lines.Script.{replied_to, read_cost}
 use Rattle.fsrm_model.specs.declared.command.Refusal.{Refusal}
 use Rattle.fsrm_model.specs.declared.command.Refusal.TheVariants.{ClockBack}
-use Rattle.fsrm_model.specs.Check.{◌when◌, first}
-use Rattle.fsrm_model.specs.QuotaStates.{followed}
-use Rattle.fsrm_model.specs.Work.{Work}
-use Rattle.fsrm_model.specs.Step.{Acted, Stepped, decided, lasted, left_by, refused_leaving, screened, step, unlasting, work}
-use Rattle.fsrm_model.specs.Text.{reply}
-use Rattle.fsrm_model.specs.Valid.{IsValid}
+use Rattle.fsrm_model.specs.commands.Check.{◌when◌, first}
+use Rattle.fsrm_model.specs.objects.QuotaStates.{followed}
+use Rattle.fsrm_model.specs.commands.Work.{Work}
+use Rattle.fsrm_model.specs.commands.Step.{Acted, Stepped, decided, lasted, left_by, refused_leaving, screened, step, unlasting, work}
+use Rattle.fsrm_model.specs.texts.Text.{reply}
+use Rattle.fsrm_model.specs.store.Valid.{IsValid}
 use Rattle.fsrm_outside.specs.Shown.{ShowsFront}
 use Rattle.fsrm_outside.proofs.Shown.{shows_then, shows_then_front}
 use Rattle.reply_text.specs.Writes.{Sends}

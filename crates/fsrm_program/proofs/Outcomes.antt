@@ -8,11 +8,11 @@ use Rattle.fsrm_model.specs.declared.command.Refusal.{Refusal}
 use Rattle.fsrm_model.specs.declared.command.Refusal.TheVariants.{BadLine, LineTooLong, InvalidPath, InvalidName, OutOfRange, InvalidLimit, ClockBack, PathNotFound, NotFound, AlreadyExists, DuplicateName, InUse, InvalidCombination, NotEmpty, InvalidMove, NothingToScan, VolumeFull, NamesFull, TableFull, TextsFull, ScreenBlocked, QuotaExceeded}
 use Rattle.fsrm_model.specs.declared.row.Capacity.{Capacity}
 use Rattle.fsrm_model.specs.declared.row.Rows.{Rows}
-use Rattle.fsrm_model.specs.Line.{read_line, is_line_refusal}
-use Rattle.fsrm_model.specs.Reading.{Read}
-use Rattle.fsrm_model.specs.Script.{Replied, without_cr, replied, replied_to, read_cost, line_cost}
-use Rattle.fsrm_model.specs.Step.{step}
-use Rattle.fsrm_model.specs.Text.{is_bare, head_line, reply}
+use Rattle.fsrm_model.specs.lines.Line.{read_line, is_line_refusal}
+use Rattle.fsrm_model.specs.lines.Reading.{Read}
+use Rattle.fsrm_model.specs.lines.Script.{Replied, without_cr, replied, replied_to, read_cost, line_cost}
+use Rattle.fsrm_model.specs.commands.Step.{step}
+use Rattle.fsrm_model.specs.texts.Text.{is_bare, head_line, reply}
 use Rattle.fsrm_model.proofs.lines.LineRefusals.{line_refusal}
 use Rattle.fsrm_model.proofs.lines.PlainMachine.{replied-read, line_cost-read}
 use Rattle.fsrm_outside.specs.Shown.{ShowsFront}

@@ -3,7 +3,7 @@ use Rattle.std.proofs.Common.{◌≡◌, ℕ, ◌+◌, ◌≤◌, List, [], ◌+
 use Rattle.std.specs.Prelude.{Option}
 use Rattle.std.proofs.lemmas.List.{length-take}
 use Rattle.std.specs.Io.KnownBytes.{append_known}
-use Rattle.fsrm_model.specs.Limits.{longest_script}
+use Rattle.fsrm_model.specs.values.Limits.{longest_script}
 use Rattle.fsrm_program.specs.declared.status.Status.{Status}
 use Rattle.fsrm_program.specs.declared.status.Status.TheVariants.{Done, Usage, ReadFault, WriteFault, TooLong, NoMemory}
 use Rattle.fsrm_program.specs.Bytes.{Taken}

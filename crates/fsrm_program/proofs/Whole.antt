@@ -6,8 +6,8 @@ use Rattle.std.proofs.lemmas.List.{append-nil, nil_from_length}
 use Rattle.std.proofs.Math.Seq.{drop-append_seam}
 use Rattle.fsrm_model.specs.declared.row.Capacity.{Capacity}
 use Rattle.fsrm_model.specs.declared.row.Rows.{Rows}
-use Rattle.fsrm_model.specs.Limits.{longest_script}
-use Rattle.fsrm_model.specs.Script.{lines, spelled_lines, AreLines, text, text_from, fold_from, cost_from, script_cost}
+use Rattle.fsrm_model.specs.values.Limits.{longest_script}
+use Rattle.fsrm_model.specs.lines.Script.{lines, spelled_lines, AreLines, text, text_from, fold_from, cost_from, script_cost}
 use Rattle.fsrm_model.proofs.lines.ScriptLaws.{lines_spelled, text_from-append, cost_from-append}
 use Rattle.fsrm_program.specs.declared.status.Status.{Status}
 use Rattle.fsrm_program.specs.declared.status.Status.TheVariants.{Done, Usage, ReadFault, WriteFault, TooLong, NoMemory}

@@ -2,10 +2,10 @@
 use Rattle.std.specs.Prelude.{◌≡◌, ℕ, ◌+◌, ◌≤◌, ◌<◌, List, [], ◌∷◌, ◌++◌, length, drop, false, Option, Some, codes}
 use Rattle.std.specs.List.{list_any}
 use Rattle.std.specs.Io.KnownBytes.{append_known}
-use Rattle.fsrm_model.specs.Limits.{longest_script}
+use Rattle.fsrm_model.specs.values.Limits.{longest_script}
 use Rattle.fsrm_model.specs.declared.row.Capacity.{Capacity}
 use Rattle.fsrm_model.specs.declared.row.Rows.{Rows}
-use Rattle.fsrm_model.specs.Script.{text, text_from, script_cost, is_end, spelled_lines, AreLines}
+use Rattle.fsrm_model.specs.lines.Script.{text, text_from, script_cost, is_end, spelled_lines, AreLines}
 use Rattle.fsrm_program.specs.declared.status.Status.{Status}
 use Rattle.fsrm_program.specs.declared.status.Status.TheVariants.{Done, ReadFault, WriteFault, TooLong, NoMemory}
 use Rattle.fsrm_outside.specs.Shown.{ShowsFront}

@@ -1,7 +1,7 @@
 -- What is taken from a script, and what is written.
 use Rattle.std.specs.Prelude.{◌≡◌, ℕ, ◌≤◌, List, [], ◌∷◌, ◌++◌, length, false, Option, Some}
 use Rattle.std.specs.List.{list_any}
-use Rattle.fsrm_model.specs.Script.{is_end}
+use Rattle.fsrm_model.specs.lines.Script.{is_end}
 
 -- these bytes were taken from the front of what was left, if that is told
 pub record Taken (before after : Option (List ℕ)) (bytes : List ℕ) : Type 0 where

@@ -4,8 +4,8 @@ use Rattle.std.specs.List.{list_any}
 use Rattle.std.specs.Io.KnownBytes.{append_known}
 use Rattle.fsrm_model.specs.declared.row.Capacity.{Capacity}
 use Rattle.fsrm_model.specs.declared.row.Rows.{Rows}
-use Rattle.fsrm_model.specs.Limits.{longest_line}
-use Rattle.fsrm_model.specs.Script.{is_end, lines, spelled_lines, AreLines, text_from, fold_from, cost_from}
+use Rattle.fsrm_model.specs.values.Limits.{longest_line}
+use Rattle.fsrm_model.specs.lines.Script.{is_end, lines, spelled_lines, AreLines, text_from, fold_from, cost_from}
 use Rattle.fsrm_outside.specs.Shown.{IsFront}
 use Rattle.fsrm_program.specs.Bytes.{Taken}
 

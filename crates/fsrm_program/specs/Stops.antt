@@ -1,8 +1,8 @@
 -- What a run has come to when a status ends it.
 use Rattle.std.specs.Prelude.{◌≡◌, ℕ, ◌+◌, ◌≤◌, List, length, Option}
 use Rattle.std.specs.Io.KnownBytes.{append_known}
-use Rattle.fsrm_model.specs.Limits.{longest_script}
-use Rattle.fsrm_model.specs.Script.{lines, text_from, cost_from}
+use Rattle.fsrm_model.specs.values.Limits.{longest_script}
+use Rattle.fsrm_model.specs.lines.Script.{lines, text_from, cost_from}
 use Rattle.fsrm_program.specs.declared.status.Status.{Status}
 use Rattle.fsrm_program.specs.declared.status.Status.TheVariants.{Done, Usage, ReadFault, WriteFault, TooLong, NoMemory}
 use Rattle.reply_text.specs.declared.fault.TextFault.{TextFault}

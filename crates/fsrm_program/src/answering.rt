@@ -1,11 +1,11 @@
 //! Does what a line asks for, and writes the reply.
 
 ghost use Rattle.std.specs.Prelude.{◌≡◌, ◌≤◌, ◌+◌, [], true, Some, Ok, OnOk, IsErrOf};
-ghost use Rattle.fsrm_model.specs.ActText.{act_lines};
-ghost use Rattle.fsrm_model.specs.Cost.{acts_cost};
-ghost use Rattle.fsrm_model.specs.Script.{without_cr, replied, replied_to, read_cost, line_cost};
-ghost use Rattle.fsrm_model.specs.Valid.{IsValid};
-ghost use Rattle.fsrm_model.specs.Valued.{is_command};
+ghost use Rattle.fsrm_model.specs.texts.ActText.{act_lines};
+ghost use Rattle.fsrm_model.specs.commands.Cost.{acts_cost};
+ghost use Rattle.fsrm_model.specs.lines.Script.{without_cr, replied, replied_to, read_cost, line_cost};
+ghost use Rattle.fsrm_model.specs.store.Valid.{IsValid};
+ghost use Rattle.fsrm_model.specs.store.Valued.{is_command};
 ghost use Rattle.fsrm_outside.specs.Causes.{Rose};
 ghost use Rattle.reply_text.specs.Writes.{KeepsCount, Sends};
 

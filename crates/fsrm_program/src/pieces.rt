@@ -1,7 +1,7 @@
 //! Reads a script in pieces, up to the longest script.
 
 ghost use Rattle.std.specs.Prelude.{◌≡◌, ◌≤◌, ◌<◌, ◌+◌, length, take, IfOk, IfErr, OnErr, IsErrOf, MatchResult};
-ghost use Rattle.fsrm_model.specs.Limits.{longest_script};
+ghost use Rattle.fsrm_model.specs.values.Limits.{longest_script};
 ghost use Rattle.fsrm_outside.specs.Causes.{HasCause, Rose};
 ghost use Rattle.fsrm_program.specs.Answers.{KeepsReads};
 ghost use Rattle.fsrm_program.specs.Bytes.{Taken, IsAtEnd};

@@ -3,9 +3,9 @@
 ghost use Rattle.std.specs.Prelude.{◌≡◌, ◌≤◌, ◌+◌, ◌↔◌, map, IsTrue, length};
 ghost use Rattle.std.specs.Option.{ForSome};
 ghost use Rattle.std.specs.String.{string_bytes};
-ghost use Rattle.fsrm_model.specs.Fresh.{default_capacity, new_rows};
-ghost use Rattle.fsrm_model.specs.Limits.{longest_script};
-ghost use Rattle.fsrm_model.specs.Script.{text, script_cost};
+ghost use Rattle.fsrm_model.specs.nodes.Fresh.{default_capacity, new_rows};
+ghost use Rattle.fsrm_model.specs.values.Limits.{longest_script};
+ghost use Rattle.fsrm_model.specs.lines.Script.{text, script_cost};
 ghost use Rattle.fsrm_outside.specs.Causes.{Rose};
 ghost use Rattle.fsrm_outside.specs.Shown.{ShowsFront};
 ghost use Rattle.fsrm_program.specs.Bytes.{TakenMost};

@@ -2,8 +2,8 @@
 
 ghost use Rattle.std.specs.Prelude.{◌≡◌, ℕ, ◌≤◌, ◌<◌, ◌+◌, ◌-◌, ◌^◌, [], length, IfOk, IfErr, OnOk, OnErr, IsErrOf, MatchResult};
 ghost use Rattle.std.specs.Option.{ForSome};
-ghost use Rattle.fsrm_model.specs.Fresh.{default_capacity, new_rows};
-ghost use Rattle.fsrm_model.specs.Limits.{longest_script};
+ghost use Rattle.fsrm_model.specs.nodes.Fresh.{default_capacity, new_rows};
+ghost use Rattle.fsrm_model.specs.values.Limits.{longest_script};
 ghost use Rattle.fsrm_outside.specs.Causes.{Rose};
 ghost use Rattle.reply_text.specs.Writes.{KeepsCount};
 ghost use Rattle.fsrm_program.specs.Bytes.{IsAtEnd, TakenMost};

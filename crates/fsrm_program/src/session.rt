@@ -2,8 +2,8 @@
 
 ghost use Rattle.std.specs.Prelude.{◌≡◌, ℕ, ◌≤◌, ◌<◌, ◌+◌, ◌^◌, ◌++◌, ◌∷◌, [], length, take, false, OnOk, OnErr, IsErrOf, MatchOption};
 ghost use Rattle.std.specs.List.{list_any};
-ghost use Rattle.fsrm_model.specs.Limits.{longest_line};
-ghost use Rattle.fsrm_model.specs.Script.{is_end};
+ghost use Rattle.fsrm_model.specs.values.Limits.{longest_line};
+ghost use Rattle.fsrm_model.specs.lines.Script.{is_end};
 ghost use Rattle.fsrm_program.specs.Bytes.{CutsLine};
 ghost use Rattle.fsrm_outside.specs.Causes.{Rose};
 ghost use Rattle.reply_text.specs.Writes.{KeepsCount};

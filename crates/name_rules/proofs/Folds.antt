@@ -9,7 +9,7 @@ use Rattle.std.proofs.lemmas.List.{nil_from_length}
 use Rattle.std.proofs.lemmas.Slice.Eq.{bytes_eq-Decides}
 use Rattle.std.proofs.lemmas.Str.{chars-nil, chars_past_char}
 use Rattle.ucd_case.specs.CaseFolding.{simple_fold}
-use Rattle.fsrm_model.specs.Name.{folded, same_name, name_cmp}
+use Rattle.fsrm_model.specs.values.Name.{folded, same_name, name_cmp}
 
 chars_none : (text : List ℕ) → length text ≡ 0 → chars text ≡ []
 chars_none text none = ap chars (nil_from_length text none) ∙ chars-nil

@@ -10,7 +10,7 @@ use Rattle.std.proofs.lemmas.Str.{chars-append, chars-IsAscii, IsUtf8-from_ascii
 use Rattle.ucd_case.specs.CaseFolding.{simple_fold}
 use Rattle.ucd_case.proofs.CaseFoldingLemmas.{simple_fold-ascii}
 use Rattle.fsrm_base.proofs.TestLaws.{both}
-use Rattle.fsrm_model.specs.Name.{name_cmp}
+use Rattle.fsrm_model.specs.values.Name.{name_cmp}
 use Rattle.name_rules.specs.Fronts.{HasSameFront, are_same_ascii}
 use Rattle.name_rules.proofs.Folds.{ended, longer, shorter, then_rest}
 

@@ -3,7 +3,7 @@ use Rattle.std.proofs.Common.{◌≡◌, ℕ, ◌<◌, Bool, false, List, get_or
 use Rattle.std.specs.Prelude.{map}
 use Rattle.std.specs.List.{range_with_len}
 use Rattle.std.proofs.lemmas.List.FromFn.{get_or-map-range_with_len}
-use Rattle.fsrm_model.specs.Name.{is_name_byte}
+use Rattle.fsrm_model.specs.values.Name.{is_name_byte}
 use Rattle.name_rules.specs.declared.name.TheConstants.{NAME_BYTES}
 
 -- each of its bytes, one by one

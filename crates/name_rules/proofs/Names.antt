@@ -3,10 +3,10 @@ use Rattle.std.proofs.Common.{◌≡◌, ℕ, ◌&&◌, ◌||◌, not, Bool, tru
 use Rattle.std.specs.Prelude.{bytes_eq, codes}
 use Rattle.std.specs.List.{list_all}
 use Rattle.std.proofs.lemmas.Bool.{false≢true, lt-ltb}
-use Rattle.fsrm_model.specs.Limits.{longest_name}
-use Rattle.fsrm_model.specs.Name.{is_name, is_name_byte}
-use Rattle.fsrm_model.specs.Reading.{path_from, path_parts, is_on_volume, has_path_form}
-use Rattle.fsrm_model.specs.PathNames.{parts_of}
+use Rattle.fsrm_model.specs.values.Limits.{longest_name}
+use Rattle.fsrm_model.specs.values.Name.{is_name, is_name_byte}
+use Rattle.fsrm_model.specs.lines.Reading.{path_from, path_parts, is_on_volume, has_path_form}
+use Rattle.fsrm_model.specs.meaning.PathNames.{parts_of}
 use Rattle.fsrm_base.proofs.TestLaws.{and_false, both}
 
 -- an item that fails a test

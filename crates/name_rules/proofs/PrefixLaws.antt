@@ -14,7 +14,7 @@ use Rattle.std.proofs.lemmas.Str.{chars-nil}
 use Rattle.std.proofs.lemmas.Str.Ascii.{lowercase_ascii}
 use Rattle.ucd_case.specs.CaseFolding.{simple_fold}
 use Rattle.ucd_case.proofs.CaseFoldingLemmas.{simple_fold-ascii}
-use Rattle.fsrm_model.specs.Name.{folded, name_cmp}
+use Rattle.fsrm_model.specs.values.Name.{folded, name_cmp}
 use Rattle.name_rules.specs.Prefix.{number_of, prefix}
 use Rattle.name_rules.proofs.Fronts.{chars_ascii}
 

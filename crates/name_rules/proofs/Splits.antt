@@ -13,8 +13,8 @@ use Rattle.std.proofs.lemmas.Iterator.Splits.{YieldsList-from_shown_while}
 use Rattle.std.proofs.lemmas.List.{nil_from_length}
 use Rattle.std.proofs.lemmas.List.Elements.{All-nil, All-cons}
 use Rattle.std.proofs.lemmas.List.Splits.{slice_split_none, slice_split_at, length-slice_split}
-use Rattle.fsrm_model.specs.Reading.{is_backslash, without_last_empty}
-use Rattle.fsrm_model.specs.PathNames.{parts_of}
+use Rattle.fsrm_model.specs.lines.Reading.{is_backslash, without_last_empty}
+use Rattle.fsrm_model.specs.meaning.PathNames.{parts_of}
 use Rattle.fsrm_model.proofs.FirstNames.{more_parts}
 
 -- ---- a part is taken off

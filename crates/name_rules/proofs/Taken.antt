@@ -9,9 +9,9 @@ use Rattle.std.proofs.lemmas.List.Elements.{All-nil, All-cons}
 use Rattle.std.proofs.lemmas.List.Splits.{slice_split-cons_no}
 use Rattle.std.proofs.lemmas.List.Sums.{prefix_len-le-length, prefix_len_stops}
 use Rattle.fsrm_base.proofs.TestLaws.{both, is_or, is_or_not, eq_is, clash, neither}
-use Rattle.fsrm_model.specs.Name.{is_name, is_name_byte}
-use Rattle.fsrm_model.specs.Reading.{is_backslash, without_last_empty}
-use Rattle.fsrm_model.specs.PathNames.{parts_of}
+use Rattle.fsrm_model.specs.values.Name.{is_name, is_name_byte}
+use Rattle.fsrm_model.specs.lines.Reading.{is_backslash, without_last_empty}
+use Rattle.fsrm_model.specs.meaning.PathNames.{parts_of}
 use Rattle.name_rules.specs.Parts.{IsFirstName}
 use Rattle.name_rules.proofs.Names.{all_broken, not_named}
 use Rattle.name_rules.proofs.Splits.{parts_of_last, parts_of_more}

@@ -1,8 +1,8 @@
 -- The parts of a path.
 use Rattle.std.specs.Prelude.{◌≡◌, ◌≤◌, ◌+◌, ◌==◌, ◌||◌, ℕ, Bool, true, nat_lt, List, ◌∷◌, length, take, drop, slice_index}
 use Rattle.std.specs.List.{list_all}
-use Rattle.fsrm_model.specs.Name.{is_name}
-use Rattle.fsrm_model.specs.PathNames.{parts_of}
+use Rattle.fsrm_model.specs.values.Name.{is_name}
+use Rattle.fsrm_model.specs.meaning.PathNames.{parts_of}
 
 -- whether no part is empty
 abbrev pub has_no_empty_part : List ℕ → Bool

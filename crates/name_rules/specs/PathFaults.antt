@@ -1,7 +1,7 @@
 -- Why a path is refused.
 use Rattle.std.specs.Prelude.{◌≡◌, ℕ, List, Err}
 use Rattle.fsrm_model.specs.declared.command.Refusal.TheVariants.{InvalidPath as PathRefusal, InvalidName as NameRefusal}
-use Rattle.fsrm_model.specs.Reading.{Read}
+use Rattle.fsrm_model.specs.lines.Reading.{Read}
 use Rattle.name_rules.specs.declared.path.PathFault.{PathFault}
 use Rattle.name_rules.specs.declared.path.PathFault.TheVariants.{InvalidPath, InvalidName, NoMemory}
 

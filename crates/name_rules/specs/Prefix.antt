@@ -1,6 +1,6 @@
 -- The first characters of a name as a number. As far as the numbers of names differ, they are in the order of the names.
 use Rattle.std.specs.Prelude.{ℕ, zero, suc, ◌+◌, ◌-◌, ◌*◌, ◌^◌, nat_lt, List, [], ◌∷◌, if◌then◌else◌}
-use Rattle.fsrm_model.specs.Name.{folded}
+use Rattle.fsrm_model.specs.values.Name.{folded}
 
 -- a number of so many digits of base 256. Each character is a digit, and after the last one all digits are 0; but from the
 -- first character on that is 255 or more all are 255

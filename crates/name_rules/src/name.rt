@@ -2,8 +2,8 @@
 
 ghost use Rattle.std.specs.Prelude.{◌≡◌, ◌||◌, ◌&&◌, nat_lt, nat_le, true, false, IfOk, OnOk, IsErrOf, bytes_eq, codes};
 ghost use Rattle.std.specs.List.{list_all, prefix_len};
-ghost use Rattle.fsrm_model.specs.Limits.{longest_name};
-ghost use Rattle.fsrm_model.specs.Name.{is_name, is_name_byte};
+ghost use Rattle.fsrm_model.specs.values.Limits.{longest_name};
+ghost use Rattle.fsrm_model.specs.values.Name.{is_name, is_name_byte};
 
 use fsrm_model::limits::LONGEST_NAME;
 use fsrm_model::{NoMemory, Text};
@@ -79,7 +79,7 @@ pub struct Name {
 
 impl Model for Name {
     ghost use Rattle.std.specs.Prelude.{◌≡◌, List, ℕ, true};
-    ghost use Rattle.fsrm_model.specs.Name.{is_name};
+    ghost use Rattle.fsrm_model.specs.values.Name.{is_name};
 
     ghost Value = { List ℕ };
 

@@ -5,7 +5,7 @@ ghost use Rattle.std.specs.Ordering.{nat_cmp};
 ghost use Rattle.std.specs.Char.{is_ascii};
 ghost use Rattle.std.specs.Prelude.{◌≡◌, ◌<◌, ◌&&◌, false, length, slice_index};
 ghost use Rattle.ucd_case.specs.CaseFolding.{simple_fold};
-ghost use Rattle.fsrm_model.specs.Name.{same_name, name_cmp};
+ghost use Rattle.fsrm_model.specs.values.Name.{same_name, name_cmp};
 ghost use Rattle.name_rules.specs.Fronts.{HasSameFront, are_same_ascii};
 
 use std::cmp::Ordering;

@@ -2,9 +2,9 @@
 
 ghost use Rattle.std.specs.Prelude.{◌≡◌, true, false, drop, Ok, Err, IfOk, IfErr, MatchOption};
 ghost use Rattle.std.specs.List.{list_all};
-ghost use Rattle.fsrm_model.specs.Name.{is_name};
-ghost use Rattle.fsrm_model.specs.Reading.{path_from, is_on_volume};
-ghost use Rattle.fsrm_model.specs.PathNames.{parts_of};
+ghost use Rattle.fsrm_model.specs.values.Name.{is_name};
+ghost use Rattle.fsrm_model.specs.lines.Reading.{path_from, is_on_volume};
+ghost use Rattle.fsrm_model.specs.meaning.PathNames.{parts_of};
 ghost use Rattle.name_rules.specs.Parts.{has_no_empty_part};
 ghost use Rattle.name_rules.specs.PathFaults.{IsFault};
 

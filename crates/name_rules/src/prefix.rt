@@ -3,7 +3,7 @@
 ghost use Rattle.std.specs.Prelude.{◌≡◌, ◌-◌, ◌*◌, ◌^◌, ◌<◌, ◌≤◌, nat_lt, min, if◌then◌else◌, drop, slice_index};
 ghost use Rattle.std.specs.Str.{IsUtf8};
 ghost use Rattle.std.specs.Str.Iter.{chars_rest};
-ghost use Rattle.fsrm_model.specs.Name.{folded};
+ghost use Rattle.fsrm_model.specs.values.Name.{folded};
 ghost use Rattle.name_rules.specs.Prefix.{prefix};
 
 use std::str::Chars;

@@ -3,7 +3,7 @@ use Rattle.std.proofs.Common.{◌≡◌, ℕ, ◌+◌, ◌<◌, ◌≤◌, true,
 use Rattle.std.specs.Prelude.{is_some, option_map, unwrap_or, cond}
 use Rattle.std.proofs.lemmas.List.{length-set}
 use Rattle.fsrm_model.specs.declared.row.NodeRow.{NodeRow}
-use Rattle.fsrm_model.specs.Tree.{name_bytes}
+use Rattle.fsrm_model.specs.nodes.Tree.{name_bytes}
 use Rattle.name_region.specs.Contents.{Contents, bytes_of, is_live, live_count, text_of, used, with_text}
 use Rattle.node_table.specs.declared.row.Row.{Row}
 use Rattle.node_table.specs.Kept.{IsTable, name_under, slot_in, slots_in, table_of}

@@ -1,7 +1,7 @@
 -- How the rows of a table and the region of its names stand for its slots.
 use Rattle.std.specs.Prelude.{◌≡◌, ℕ, suc, ◌≤◌, true, List, [], ◌∷◌, Option, Some, length, option_map, unwrap_or}
 use Rattle.fsrm_model.specs.declared.row.NodeRow.{NodeRow}
-use Rattle.fsrm_model.specs.Tree.{name_bytes}
+use Rattle.fsrm_model.specs.nodes.Tree.{name_bytes}
 use Rattle.name_region.specs.Contents.{Contents, is_live, live_count, text_of, used}
 use Rattle.node_table.specs.declared.row.Row.{Row}
 use Rattle.node_table.specs.Rows.{Slotted, key_of, row_at, row_in}

@@ -1,7 +1,7 @@
 -- The row that a lent node shows.
 use Rattle.std.specs.Prelude.{◌≤◌}
 use Rattle.fsrm_model.specs.declared.row.NodeRow.{NodeRow}
-use Rattle.fsrm_model.specs.Limits.{latest_moment, longest_file}
+use Rattle.fsrm_model.specs.values.Limits.{latest_moment, longest_file}
 use Rattle.node_table.specs.declared.view.NodeView.{NodeView}
 
 abbrev pub seen : NodeView → NodeRow

@@ -1,8 +1,8 @@
 //! A row in 32 bytes.
 
 ghost use Rattle.std.specs.Prelude.{◌≡◌, ℕ, ◌^◌, ◌<◌, ◌≤◌, false, List, Some};
-ghost use Rattle.fsrm_model.specs.FileOps.{placed, resized, touched};
-ghost use Rattle.fsrm_model.specs.Limits.{latest_moment, longest_file};
+ghost use Rattle.fsrm_model.specs.nodes.FileOps.{placed, resized, touched};
+ghost use Rattle.fsrm_model.specs.values.Limits.{latest_moment, longest_file};
 ghost use Rattle.node_table.specs.Rows.{IsMarked, empty_row, is_empty, is_folder, key_of, length_of, row_in};
 ghost use Rattle.node_table.specs.Views.{IsInRange, seen};
 

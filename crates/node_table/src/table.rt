@@ -1,9 +1,9 @@
 //! The nodes of a volume.
 
 ghost use Rattle.std.specs.Prelude.{◌≡◌, ◌+◌, ◌<◌, ◌≤◌, IfOk, None, Some, false, length, option_map, true};
-ghost use Rattle.fsrm_model.specs.FileOps.{placed, resized, touched};
-ghost use Rattle.fsrm_model.specs.Limits.{latest_moment, longest_file};
-ghost use Rattle.fsrm_model.specs.Tree.{name_bytes};
+ghost use Rattle.fsrm_model.specs.nodes.FileOps.{placed, resized, touched};
+ghost use Rattle.fsrm_model.specs.values.Limits.{latest_moment, longest_file};
+ghost use Rattle.fsrm_model.specs.nodes.Tree.{name_bytes};
 ghost use Rattle.name_region.specs.Contents.{live_count, text_of, used, with_text};
 ghost use Rattle.node_table.specs.Slots.{is_taken, rows_of, slot_at, with_change_at, with_slot};
 ghost use Rattle.node_table.specs.Table.{no_nodes};

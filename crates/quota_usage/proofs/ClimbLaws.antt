@@ -4,7 +4,7 @@ use Rattle.std.specs.Prelude.{drop, is_some, option_map, if◌then◌else◌}
 use Rattle.std.specs.Option.{option_or}
 use Rattle.fsrm_model.specs.declared.row.NodeRow.{NodeRow}
 use Rattle.fsrm_base.specs.Keyed.{row_of, with_change}
-use Rattle.fsrm_model.specs.Tree.{above, parent_of, chain_in, chain, is_under}
+use Rattle.fsrm_model.specs.nodes.Tree.{above, parent_of, chain_in, chain, is_under}
 use Rattle.fsrm_base.proofs.TestLaws.{is_or, is_or_not, eq_is, eq_same, or_later, clash, not_true}
 use Rattle.fsrm_model.proofs.nodes.ChainLaws.{IsTree, Has}
 use Rattle.fsrm_base.specs.Numbers.{is_in}

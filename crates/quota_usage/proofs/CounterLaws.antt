@@ -10,7 +10,7 @@ use Rattle.std.specs.Vec.{vec_capacity}
 use Rattle.fsrm_base.specs.Keyed.{row_of, has_row, with_change, is_ascending}
 use Rattle.fsrm_base.specs.Numbers.{with_number, without_number}
 use Rattle.fsrm_base.specs.Places.{IsAt, IsGap}
-use Rattle.fsrm_model.specs.Limits.{most_quotas}
+use Rattle.fsrm_model.specs.values.Limits.{most_quotas}
 use Rattle.fsrm_base.proofs.Look.{none_row, is_some-find}
 use Rattle.fsrm_base.proofs.SortedRows.{set_found, ascending-insert, ascending-remove, ascending-set}
 use Rattle.fsrm_base.proofs.TestLaws.{eq_is}

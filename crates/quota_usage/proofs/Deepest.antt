@@ -8,8 +8,8 @@ use Rattle.std.specs.Prelude.{find, filter, option_map, is_some, unwrap_or, ifâ—
 use Rattle.fsrm_model.specs.declared.row.NodeRow.{NodeRow}
 use Rattle.fsrm_model.specs.declared.row.QuotaRow.{QuotaRow}
 use Rattle.fsrm_base.specs.Keyed.{row_of, is_ascending}
-use Rattle.fsrm_model.specs.Quota.{folder_of, counts, refuses}
-use Rattle.fsrm_model.specs.Tree.{is_under}
+use Rattle.fsrm_model.specs.objects.Quota.{folder_of, counts, refuses}
+use Rattle.fsrm_model.specs.nodes.Tree.{is_under}
 use Rattle.fsrm_base.proofs.TestLaws.{both, clash, eq_is, is_or_not, not_true, implied, is_false}
 use Rattle.fsrm_model.proofs.nodes.ChainLaws.{IsTree, Has}
 use Rattle.fsrm_model.proofs.nodes.Below.{chain_root, each_above}

@@ -2,7 +2,7 @@
 use Rattle.std.proofs.Common.{◌≡◌, ℕ, ◌+◌, ◌-◌, ◌<◌, ◌≤◌, ◌^◌, ◌==◌, Bool, true, false, cond, inl, inr, List, length, Option, Some, None, refl, sym, ◌∙◌, ap, subst, arith}
 use Rattle.fsrm_model.specs.declared.row.NodeRow.{NodeRow}
 use Rattle.fsrm_model.specs.declared.row.QuotaRow.{QuotaRow}
-use Rattle.fsrm_model.specs.Tree.{parent_of, chain, is_under}
+use Rattle.fsrm_model.specs.nodes.Tree.{parent_of, chain, is_under}
 use Rattle.fsrm_base.proofs.TestLaws.{is_or_not, eq_is, eq_same, or_later, clash, not_true, is_apart}
 use Rattle.fsrm_model.proofs.nodes.ChainLaws.{IsTree, Has, chain_in_has}
 use Rattle.fsrm_base.specs.Numbers.{is_in}

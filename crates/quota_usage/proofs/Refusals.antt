@@ -7,7 +7,7 @@ use Rattle.quota_usage.specs.Charge.{is_above}
 use Rattle.quota_usage.specs.declared.change.Change.{Change}
 use Rattle.fsrm_model.specs.declared.row.QuotaRow.{QuotaRow}
 use Rattle.fsrm_base.specs.Keyed.{row_of}
-use Rattle.fsrm_model.specs.Quota.{folder_of, counts, refuses}
+use Rattle.fsrm_model.specs.objects.Quota.{folder_of, counts, refuses}
 use Rattle.fsrm_base.proofs.Look.{found_key}
 use Rattle.fsrm_base.proofs.TestLaws.{and_false, not_lt}
 use Rattle.quota_usage.specs.Climb.{judged, refusal_of, refusal_at, IsNearestTo}

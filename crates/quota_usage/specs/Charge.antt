@@ -4,8 +4,8 @@ use Rattle.std.specs.Option.{option_map_or}
 use Rattle.fsrm_model.specs.declared.row.NodeRow.{NodeRow}
 use Rattle.fsrm_model.specs.declared.row.QuotaRow.{QuotaRow}
 use Rattle.fsrm_base.specs.Keyed.{has_row}
-use Rattle.fsrm_model.specs.Quota.{refuses, deepest}
-use Rattle.fsrm_model.specs.Tree.{number, chain, is_under}
+use Rattle.fsrm_model.specs.objects.Quota.{refuses, deepest}
+use Rattle.fsrm_model.specs.nodes.Tree.{number, chain, is_under}
 use Rattle.quota_usage.specs.declared.change.Change.{Change}
 use Rattle.quota_usage.specs.declared.change.Counter.{Counter}
 use Rattle.quota_usage.specs.declared.change.Exceeded.{Exceeded}

@@ -4,8 +4,8 @@ use Rattle.std.specs.Option.{option_and_then}
 use Rattle.fsrm_model.specs.declared.row.NodeRow.{NodeRow}
 use Rattle.fsrm_model.specs.declared.row.QuotaRow.{QuotaRow}
 use Rattle.fsrm_base.specs.Keyed.{row_of}
-use Rattle.fsrm_model.specs.Quota.{folder_of, refuses}
-use Rattle.fsrm_model.specs.Tree.{is_under}
+use Rattle.fsrm_model.specs.objects.Quota.{folder_of, refuses}
+use Rattle.fsrm_model.specs.nodes.Tree.{is_under}
 use Rattle.quota_usage.specs.declared.change.Change.{Change}
 use Rattle.quota_usage.specs.declared.change.Counter.{Counter}
 use Rattle.quota_usage.specs.declared.change.Exceeded.{Exceeded}

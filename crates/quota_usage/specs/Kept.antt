@@ -3,7 +3,7 @@ use Rattle.std.specs.Prelude.{◌≡◌, ◌≤◌, true, length, map}
 use Rattle.std.specs.Global.{Vec}
 use Rattle.std.specs.Vec.{vec_capacity}
 use Rattle.fsrm_base.specs.Keyed.{is_ascending}
-use Rattle.fsrm_model.specs.Limits.{most_quotas}
+use Rattle.fsrm_model.specs.values.Limits.{most_quotas}
 use Rattle.fsrm_objects.specs.PlaceTables.{Places}
 use Rattle.quota_usage.specs.Counters.{counted}
 use Rattle.quota_usage.specs.declared.change.Counter.{Counter}

@@ -3,7 +3,7 @@
 ghost use Rattle.std.specs.Prelude.{◌≡◌, ◌+◌, ◌*◌, ◌≤◌, true, length, map};
 ghost use Rattle.fsrm_model.proofs.nodes.ChainLaws.{IsTree};
 ghost use Rattle.fsrm_base.specs.Keyed.{has_row};
-ghost use Rattle.fsrm_model.specs.Tree.{number as key, chain, parent_of};
+ghost use Rattle.fsrm_model.specs.nodes.Tree.{number as key, chain, parent_of};
 ghost use Rattle.quota_usage.specs.Charge.{charged_counter, IsChange, Fits, height};
 ghost use Rattle.quota_usage.specs.Climb.{FitsAbove, climbed};
 

@@ -3,8 +3,8 @@
 ghost use Rattle.std.specs.Prelude.{◌≡◌, ℕ, ◌+◌, ◌*◌, ◌<◌, ◌≤◌, ◌^◌, IfOk, IfErr, Some, true, false, length};
 ghost use Rattle.fsrm_model.proofs.nodes.ChainLaws.{IsTree};
 ghost use Rattle.fsrm_base.specs.Keyed.{has_row};
-ghost use Rattle.fsrm_model.specs.Quota.{refuses};
-ghost use Rattle.fsrm_model.specs.Tree.{number as key, chain, is_under};
+ghost use Rattle.fsrm_model.specs.objects.Quota.{refuses};
+ghost use Rattle.fsrm_model.specs.nodes.Tree.{number as key, chain, is_under};
 ghost use Rattle.quota_usage.specs.Charge.{IsChange, Fits, height as change_height};
 ghost use Rattle.quota_usage.specs.Climb.{amended, FitsAbove, refusal_of, moved_refusal, refusal_at, IsFirst, IsNearest, IsNearestTo, IsMeeting};
 ghost use Rattle.quota_usage.specs.Counters.{used_in};

@@ -3,9 +3,9 @@
 ghost use Rattle.std.specs.Prelude.{◌≡◌, ℕ, ◌+◌, ◌*◌, ◌<◌, ◌≤◌, ◌^◌, ◌==◌, IfOk, IfErr, OnOk, MatchOption, [], Some, true, false, length, map};
 ghost use Rattle.fsrm_base.specs.Keyed.{has_row, is_ascending, with_change};
 ghost use Rattle.fsrm_base.specs.Places.{IsAt};
-ghost use Rattle.fsrm_model.specs.Limits.{most_quotas};
-ghost use Rattle.fsrm_model.specs.Quota.{folder_of};
-ghost use Rattle.fsrm_model.specs.Valid.{IsVolume};
+ghost use Rattle.fsrm_model.specs.values.Limits.{most_quotas};
+ghost use Rattle.fsrm_model.specs.objects.Quota.{folder_of};
+ghost use Rattle.fsrm_model.specs.store.Valid.{IsVolume};
 ghost use Rattle.quota_usage.specs.Charge.{charged_counter, over_by, exceeded_by, IsChange, Fits, height};
 ghost use Rattle.quota_usage.specs.Climb.{amended, amended_counter};
 ghost use Rattle.quota_usage.specs.Counters.{counted, used_in, with_counter, without_counter};

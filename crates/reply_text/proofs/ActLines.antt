@@ -16,17 +16,17 @@ use Rattle.fsrm_model.specs.declared.row.Capacity.{Capacity}
 use Rattle.fsrm_model.specs.declared.row.QuotaRow.{QuotaRow}
 use Rattle.fsrm_model.specs.declared.row.Rows.{Rows}
 use Rattle.fsrm_model.specs.declared.row.ScreenRow.{ScreenRow}
-use Rattle.fsrm_model.specs.ActText.{act_line, entry_line, entry_words, subject_words, text_of}
-use Rattle.fsrm_model.specs.ActionWords.{kind_word}
-use Rattle.fsrm_model.specs.Acts.{IsAct, actions_of, folder_in}
-use Rattle.fsrm_model.specs.Limits.{latest_moment, most_entries}
-use Rattle.fsrm_model.specs.Printed.{body_line, path_text}
-use Rattle.fsrm_model.specs.Quota.{quota_of}
-use Rattle.fsrm_model.specs.Screens.{screen_folder, screen_of}
-use Rattle.fsrm_model.specs.Text.{list_lines}
-use Rattle.fsrm_model.specs.Thresholds.{actions_at}
-use Rattle.fsrm_model.specs.Tree.{number}
-use Rattle.fsrm_model.specs.Valid.{IsValid, are_entries, is_moment}
+use Rattle.fsrm_model.specs.texts.ActText.{act_line, entry_line, entry_words, subject_words, text_of}
+use Rattle.fsrm_model.specs.texts.ActionWords.{kind_word}
+use Rattle.fsrm_model.specs.objects.Acts.{IsAct, actions_of, folder_in}
+use Rattle.fsrm_model.specs.values.Limits.{latest_moment, most_entries}
+use Rattle.fsrm_model.specs.texts.Printed.{body_line, path_text}
+use Rattle.fsrm_model.specs.objects.Quota.{quota_of}
+use Rattle.fsrm_model.specs.objects.Screens.{screen_folder, screen_of}
+use Rattle.fsrm_model.specs.texts.Text.{list_lines}
+use Rattle.fsrm_model.specs.objects.Thresholds.{actions_at}
+use Rattle.fsrm_model.specs.nodes.Tree.{number}
+use Rattle.fsrm_model.specs.store.Valid.{IsValid, are_entries, is_moment}
 use Rattle.fsrm_model.proofs.valid.ScreensKept.{screen_at}
 use Rattle.reply_text.specs.Lines.{act_text, entry_text, moment_text, subject_text}
 use Rattle.reply_text.proofs.Nodes.{is_node}

@@ -4,9 +4,9 @@ use Rattle.std.specs.Prelude.{◌==◌, true, false, decimal, codes, flat_map, i
 use Rattle.fsrm_base.proofs.TestLaws.{eq_is}
 use Rattle.fsrm_model.specs.declared.row.Action.{Action}
 use Rattle.fsrm_model.specs.declared.row.Threshold.{Threshold}
-use Rattle.fsrm_model.specs.ActText.{at_lines}
-use Rattle.fsrm_model.specs.ActionWords.{kind_word, minutes_word}
-use Rattle.fsrm_model.specs.Printed.{deep_line}
+use Rattle.fsrm_model.specs.texts.ActText.{at_lines}
+use Rattle.fsrm_model.specs.texts.ActionWords.{kind_word, minutes_word}
+use Rattle.fsrm_model.specs.texts.Printed.{deep_line}
 use Rattle.reply_text.specs.Lines.{action_line, do_text, threshold_text}
 
 -- ---- minutes, by their sign and their digits

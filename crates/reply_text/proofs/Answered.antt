@@ -11,7 +11,7 @@ use Rattle.fsrm_model.specs.declared.command.Refusal.TheVariants.{ScreenBlocked,
 use Rattle.fsrm_model.specs.declared.row.Capacity.{Capacity}
 use Rattle.fsrm_model.specs.declared.row.NodeRow.{NodeRow}
 use Rattle.fsrm_model.specs.declared.row.Rows.{Rows}
-use Rattle.fsrm_model.specs.Text.{body_line, done_words, head_line, line_of, list_lines, path_text, reply}
+use Rattle.fsrm_model.specs.texts.Text.{body_line, done_words, head_line, line_of, list_lines, path_text, reply}
 use Rattle.fsrm_outside.specs.Shown.{ShowsFront}
 use Rattle.fsrm_outside.proofs.Shown.{append_known-nil}
 use Rattle.reply_text.proofs.Sent.{sends_then, front_more}

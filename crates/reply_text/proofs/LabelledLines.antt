@@ -1,7 +1,7 @@
 -- Lines of a text after its label.
 use Rattle.std.proofs.Common.{◌≡◌, ℕ, List, [], ◌∷◌, ◌++◌, refl, ap}
 use Rattle.std.specs.Prelude.{flat_map}
-use Rattle.fsrm_model.specs.Printed.{labelled_line}
+use Rattle.fsrm_model.specs.texts.Printed.{labelled_line}
 use Rattle.reply_text.specs.Lines.{labelled_text}
 
 pub labelled_shown : (label text bytes : List ℕ) → bytes ≡ text → 32 ∷ 32 ∷ 32 ∷ 32 ∷ (label ++ 32 ∷ (bytes ++ 10 ∷ [])) ≡ labelled_text label text

@@ -3,7 +3,7 @@ use Rattle.std.proofs.Common.{◌≡◌, ℕ, ◌+◌, ◌/◌, ◌%◌, ◌≤�
 use Rattle.std.specs.Prelude.{codes}
 use Rattle.std.proofs.lemmas.List.{append-nil, drop_at, take_at}
 use Rattle.jiff_core.specs.Calendar.{IsCivilDate, days_from_civil}
-use Rattle.fsrm_model.specs.Date.{Civil, date_of, day_text, time_text}
+use Rattle.fsrm_model.specs.values.Date.{Civil, date_of, day_text, time_text}
 use Rattle.fsrm_model.proofs.DateLaws.{IsOnly, date_only}
 use Rattle.reply_text.specs.Lines.{moment_text}
 

@@ -12,16 +12,16 @@ use Rattle.fsrm_model.specs.declared.row.NodeRow.{NodeRow}
 use Rattle.fsrm_model.specs.declared.row.QuotaRow.{QuotaRow}
 use Rattle.fsrm_model.specs.declared.row.Rows.{Rows}
 use Rattle.fsrm_model.specs.declared.row.Threshold.{Threshold}
-use Rattle.fsrm_model.specs.Date.{date_text}
+use Rattle.fsrm_model.specs.values.Date.{date_text}
 use Rattle.fsrm_base.specs.Keyed.{row_of, has_row, is_ascending}
-use Rattle.fsrm_model.specs.Limits.{latest_moment}
-use Rattle.fsrm_model.specs.Printed.{type_word}
-use Rattle.fsrm_model.specs.Quota.{folder_of, counts, used_of}
-use Rattle.fsrm_model.specs.Cost.{path_cost, list_cost}
+use Rattle.fsrm_model.specs.values.Limits.{latest_moment}
+use Rattle.fsrm_model.specs.texts.Printed.{type_word}
+use Rattle.fsrm_model.specs.objects.Quota.{folder_of, counts, used_of}
+use Rattle.fsrm_model.specs.commands.Cost.{path_cost, list_cost}
 use Rattle.fsrm_model.specs.declared.command.Ask.TheVariants.{Quotas}
-use Rattle.fsrm_model.specs.Text.{body_line, list_lines, path_text, quota_lines, state_word}
-use Rattle.fsrm_model.specs.Tree.{usage}
-use Rattle.fsrm_model.specs.Valid.{IsValid}
+use Rattle.fsrm_model.specs.texts.Text.{body_line, list_lines, path_text, quota_lines, state_word}
+use Rattle.fsrm_model.specs.nodes.Tree.{usage}
+use Rattle.fsrm_model.specs.store.Valid.{IsValid}
 use Rattle.fsrm_base.proofs.Look.{found_key, is_some-find}
 use Rattle.fsrm_base.proofs.Members.{filter_none}
 use Rattle.fsrm_base.proofs.Order.{parts}

@@ -14,14 +14,14 @@ use Rattle.fsrm_model.specs.declared.row.GroupRow.{GroupRow}
 use Rattle.fsrm_model.specs.declared.row.NodeRow.{NodeRow}
 use Rattle.fsrm_model.specs.declared.row.Rows.{Rows}
 use Rattle.fsrm_model.specs.declared.row.ScreenRow.{ScreenRow}
-use Rattle.fsrm_model.specs.Limits.{most_excepts, most_screens}
-use Rattle.fsrm_model.specs.Patterns.{group_number}
-use Rattle.fsrm_model.specs.Printed.{body_line, labelled_line, path_text}
-use Rattle.fsrm_model.specs.Screens.{screen_folder, except_folder}
-use Rattle.fsrm_model.specs.ScreenText.{do_line, group_lines, mode_word, named_line, named_lines, screen_lines}
-use Rattle.fsrm_model.specs.Text.{list_lines}
-use Rattle.fsrm_model.specs.Tree.{number, is_folder}
-use Rattle.fsrm_model.specs.Valid.{IsValid, are_group_numbers, is_sound_except, is_sound_screen}
+use Rattle.fsrm_model.specs.values.Limits.{most_excepts, most_screens}
+use Rattle.fsrm_model.specs.values.Patterns.{group_number}
+use Rattle.fsrm_model.specs.texts.Printed.{body_line, labelled_line, path_text}
+use Rattle.fsrm_model.specs.objects.Screens.{screen_folder, except_folder}
+use Rattle.fsrm_model.specs.texts.ScreenText.{do_line, group_lines, mode_word, named_line, named_lines, screen_lines}
+use Rattle.fsrm_model.specs.texts.Text.{list_lines}
+use Rattle.fsrm_model.specs.nodes.Tree.{number, is_folder}
+use Rattle.fsrm_model.specs.store.Valid.{IsValid, are_group_numbers, is_sound_except, is_sound_screen}
 use Rattle.fsrm_model.proofs.valid.ScreensKept.{number_parts, screen_at, table_parts}
 use Rattle.reply_text.specs.Lines.{do_text, except_text, group_text, labelled_text, named_text, screen_text}
 use Rattle.reply_text.proofs.LabelledLines.{labelled_is, labelled_same}

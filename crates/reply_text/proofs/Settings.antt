@@ -3,9 +3,9 @@ use Rattle.std.proofs.Common.{◌≡◌, ℕ, List, [], ◌∷◌, ◌++◌, len
 use Rattle.std.specs.Prelude.{decimal, codes}
 use Rattle.fsrm_model.specs.declared.row.Capacity.{Capacity}
 use Rattle.fsrm_model.specs.declared.row.Rows.{Rows}
-use Rattle.fsrm_model.specs.Printed.{body_line}
-use Rattle.fsrm_model.specs.SettingsText.{settings_lines}
-use Rattle.fsrm_model.specs.Tree.{name_bytes}
+use Rattle.fsrm_model.specs.texts.Printed.{body_line}
+use Rattle.fsrm_model.specs.texts.SettingsText.{settings_lines}
+use Rattle.fsrm_model.specs.nodes.Tree.{name_bytes}
 
 abbrev lines_of : List ℕ → List ℕ → List ℕ → List ℕ → List ℕ → List ℕ → List ℕ
 lines_of limit scans nodes most names bytes =

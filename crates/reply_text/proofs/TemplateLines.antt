@@ -12,14 +12,14 @@ use Rattle.fsrm_model.specs.declared.row.NodeRow.{NodeRow}
 use Rattle.fsrm_model.specs.declared.row.Rows.{Rows}
 use Rattle.fsrm_model.specs.declared.row.TemplateRow.{TemplateRow}
 use Rattle.fsrm_model.specs.declared.row.Threshold.{Threshold}
-use Rattle.fsrm_model.specs.AutoApply.{auto_folder}
-use Rattle.fsrm_model.specs.Limits.{most_autos}
-use Rattle.fsrm_model.specs.Printed.{body_line, labelled_line, path_text, type_word}
-use Rattle.fsrm_model.specs.Templates.{template_name, template_number, template_of}
-use Rattle.fsrm_model.specs.TemplateText.{auto_lines}
-use Rattle.fsrm_model.specs.Text.{list_lines}
-use Rattle.fsrm_model.specs.Tree.{number}
-use Rattle.fsrm_model.specs.Valid.{IsValid, is_sound_auto}
+use Rattle.fsrm_model.specs.objects.AutoApply.{auto_folder}
+use Rattle.fsrm_model.specs.values.Limits.{most_autos}
+use Rattle.fsrm_model.specs.texts.Printed.{body_line, labelled_line, path_text, type_word}
+use Rattle.fsrm_model.specs.objects.Templates.{template_name, template_number, template_of}
+use Rattle.fsrm_model.specs.texts.TemplateText.{auto_lines}
+use Rattle.fsrm_model.specs.texts.Text.{list_lines}
+use Rattle.fsrm_model.specs.nodes.Tree.{number}
+use Rattle.fsrm_model.specs.store.Valid.{IsValid, is_sound_auto}
 use Rattle.fsrm_model.proofs.valid.ScreensKept.{table_parts}
 use Rattle.fsrm_model.proofs.valid.TemplatesKept.{IsAuto, auto_parts}
 use Rattle.reply_text.specs.Lines.{auto_text, labelled_text, template_text, threshold_text}

@@ -16,13 +16,13 @@ use Rattle.fsrm_model.specs.declared.command.Outcome.{Outcome}
 use Rattle.fsrm_model.specs.declared.command.Refusal.{Refusal}
 use Rattle.fsrm_model.specs.declared.command.Refusal.TheVariants.{BadLine}
 use Rattle.fsrm_model.specs.declared.command.Outcome.TheVariants.{Listing}
-use Rattle.fsrm_model.specs.ActText.{at_lines, entry_line, subject_words}
-use Rattle.fsrm_model.specs.ActionWords.{action_words, kind_word}
-use Rattle.fsrm_model.specs.Printed.{deep_line, labelled_line, type_word}
-use Rattle.fsrm_model.specs.ScreenText.{do_line, except_lines, group_lines, named_line, screen_lines}
-use Rattle.fsrm_model.specs.TemplateText.{auto_lines, template_lines}
-use Rattle.fsrm_model.specs.Text.{body_line, quota_line, quota_lines, state_word}
-use Rattle.fsrm_model.specs.Date.{date_text}
+use Rattle.fsrm_model.specs.texts.ActText.{at_lines, entry_line, subject_words}
+use Rattle.fsrm_model.specs.texts.ActionWords.{action_words, kind_word}
+use Rattle.fsrm_model.specs.texts.Printed.{deep_line, labelled_line, type_word}
+use Rattle.fsrm_model.specs.texts.ScreenText.{do_line, except_lines, group_lines, named_line, screen_lines}
+use Rattle.fsrm_model.specs.texts.TemplateText.{auto_lines, template_lines}
+use Rattle.fsrm_model.specs.texts.Text.{body_line, quota_line, quota_lines, state_word}
+use Rattle.fsrm_model.specs.values.Date.{date_text}
 
 unfoldable pub moment_text : ℕ → List ℕ
 moment_text moment = date_text moment

@@ -1,8 +1,8 @@
 //! Writes the lines of a quota's thresholds, and those of a screen's actions.
 
 ghost use Rattle.std.specs.Prelude.{◌≡◌, ◌≤◌, ◌++◌, ◌∷◌, [], IsErrOf, decimal, flat_map, codes};
-ghost use Rattle.fsrm_model.specs.ActionWords.{minutes_word};
-ghost use Rattle.fsrm_model.specs.Printed.{deep_line};
+ghost use Rattle.fsrm_model.specs.texts.ActionWords.{minutes_word};
+ghost use Rattle.fsrm_model.specs.texts.Printed.{deep_line};
 ghost use Rattle.fsrm_outside.specs.Causes.{Rose};
 ghost use Rattle.reply_text.specs.Lines.{action_line, do_text, threshold_text};
 ghost use Rattle.reply_text.specs.Parts.{part_text};

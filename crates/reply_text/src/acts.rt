@@ -1,11 +1,11 @@
 //! Writes the lines of the log of actions, and those of actions that run.
 
 ghost use Rattle.std.specs.Prelude.{◌≡◌, ℕ, ◌+◌, ◌≤◌, ◌++◌, IsErrOf, decimal, flat_map, true};
-ghost use Rattle.fsrm_model.specs.ActText.{act_line};
-ghost use Rattle.fsrm_model.specs.Acts.{IsAct, folder_in};
-ghost use Rattle.fsrm_model.specs.Cost.{path_cost};
-ghost use Rattle.fsrm_model.specs.Limits.{latest_moment};
-ghost use Rattle.fsrm_model.specs.Valid.{IsValid, are_entries};
+ghost use Rattle.fsrm_model.specs.texts.ActText.{act_line};
+ghost use Rattle.fsrm_model.specs.objects.Acts.{IsAct, folder_in};
+ghost use Rattle.fsrm_model.specs.commands.Cost.{path_cost};
+ghost use Rattle.fsrm_model.specs.values.Limits.{latest_moment};
+ghost use Rattle.fsrm_model.specs.store.Valid.{IsValid, are_entries};
 ghost use Rattle.fsrm_outside.specs.Causes.{Rose};
 ghost use Rattle.reply_text.specs.Lines.{act_text, entry_text, moment_text, subject_text};
 ghost use Rattle.reply_text.specs.Parts.{part_text};

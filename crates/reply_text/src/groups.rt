@@ -4,8 +4,8 @@ ghost use Rattle.std.specs.Prelude.{◌≡◌, ◌≤◌, IsErrOf, flat_map, tru
 ghost use Rattle.std.specs.List.{list_all};
 ghost use Rattle.fsrm_base.specs.Keyed.{has_row};
 ghost use Rattle.fsrm_model.specs.declared.command.Ask.TheVariants.{Groups as TheGroups};
-ghost use Rattle.fsrm_model.specs.Patterns.{group_number};
-ghost use Rattle.fsrm_model.specs.Text.{list_lines};
+ghost use Rattle.fsrm_model.specs.values.Patterns.{group_number};
+ghost use Rattle.fsrm_model.specs.texts.Text.{list_lines};
 ghost use Rattle.fsrm_outside.specs.Causes.{Rose};
 ghost use Rattle.reply_text.specs.Lines.{group_text, named_text};
 ghost use Rattle.reply_text.specs.Writes.{KeepsCount, Sends};

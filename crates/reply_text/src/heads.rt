@@ -3,7 +3,7 @@
 ghost use Rattle.std.specs.Prelude.{◌≡◌, ◌++◌, ◌∷◌, [], ◌≤◌, true, false, IfSome, IfNone, IsErrOf, None, List as Items, decimal, codes, length};
 ghost use Rattle.fsrm_model.specs.declared.command.Outcome.TheVariants.{Done, Refused};
 ghost use Rattle.fsrm_model.specs.declared.row.NodeRow.{NodeRow};
-ghost use Rattle.fsrm_model.specs.Text.{body_line, done_words, head_line, is_bare, line_of, refusal_words};
+ghost use Rattle.fsrm_model.specs.texts.Text.{body_line, done_words, head_line, is_bare, line_of, refusal_words};
 ghost use Rattle.fsrm_outside.specs.Causes.{Rose};
 ghost use Rattle.reply_text.specs.Lines.{carries_column};
 ghost use Rattle.reply_text.specs.Writes.{KeepsCount, Sends};

@@ -1,7 +1,7 @@
 //! Writes lines that several lists have: those of a word alone, and of a text after the label that tells what it is.
 
 ghost use Rattle.std.specs.Prelude.{◌≤◌, ◌∷◌, [], IsErrOf, flat_map};
-ghost use Rattle.fsrm_model.specs.Printed.{body_line};
+ghost use Rattle.fsrm_model.specs.texts.Printed.{body_line};
 ghost use Rattle.fsrm_outside.specs.Causes.{Rose};
 ghost use Rattle.reply_text.specs.Lines.{labelled_text};
 ghost use Rattle.reply_text.specs.Writes.{KeepsCount, Sends};

@@ -3,11 +3,11 @@
 ghost use Rattle.std.specs.Prelude.{◌≡◌, ◌+◌, ◌≤◌, ◌∷◌, [], IsErrOf, Some, decimal};
 ghost use Rattle.fsrm_base.specs.Keyed.{row_of};
 ghost use Rattle.fsrm_model.specs.declared.command.Ask.TheVariants.{Autos, Templates};
-ghost use Rattle.fsrm_model.specs.AutoApply.{auto_folder};
-ghost use Rattle.fsrm_model.specs.Cost.{list_cost, path_cost};
-ghost use Rattle.fsrm_model.specs.Printed.{body_line, type_word};
-ghost use Rattle.fsrm_model.specs.Text.{list_lines};
-ghost use Rattle.fsrm_model.specs.Valid.{IsValid};
+ghost use Rattle.fsrm_model.specs.objects.AutoApply.{auto_folder};
+ghost use Rattle.fsrm_model.specs.commands.Cost.{list_cost, path_cost};
+ghost use Rattle.fsrm_model.specs.texts.Printed.{body_line, type_word};
+ghost use Rattle.fsrm_model.specs.texts.Text.{list_lines};
+ghost use Rattle.fsrm_model.specs.store.Valid.{IsValid};
 ghost use Rattle.fsrm_outside.specs.Causes.{Rose};
 ghost use Rattle.reply_text.specs.Lines.{auto_text, template_text};
 ghost use Rattle.reply_text.specs.Writes.{KeepsCount, Sends};

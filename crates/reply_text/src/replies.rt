@@ -2,9 +2,9 @@
 
 ghost use Rattle.std.specs.Prelude.{◌≡◌, ℕ, ◌+◌, ◌≤◌, false, is_some, IsErrOf};
 ghost use Rattle.fsrm_model.specs.declared.command.Outcome.TheVariants.{Refused};
-ghost use Rattle.fsrm_model.specs.Cost.{print_cost};
-ghost use Rattle.fsrm_model.specs.Named.{IsNamed};
-ghost use Rattle.fsrm_model.specs.Text.{is_report, head_line, reply};
+ghost use Rattle.fsrm_model.specs.commands.Cost.{print_cost};
+ghost use Rattle.fsrm_model.specs.meaning.Named.{IsNamed};
+ghost use Rattle.fsrm_model.specs.texts.Text.{is_report, head_line, reply};
 ghost use Rattle.fsrm_outside.specs.Causes.{Rose};
 ghost use Rattle.reply_text.specs.Lines.{is_listing};
 ghost use Rattle.reply_text.specs.Writes.{KeepsCount, Sends};

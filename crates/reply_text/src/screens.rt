@@ -3,12 +3,12 @@
 ghost use Rattle.std.specs.Prelude.{◌≡◌, ◌+◌, ◌≤◌, ◌∷◌, [], IsErrOf, Some};
 ghost use Rattle.fsrm_base.specs.Keyed.{row_of};
 ghost use Rattle.fsrm_model.specs.declared.command.Ask.TheVariants.{Excepts, Screens};
-ghost use Rattle.fsrm_model.specs.Cost.{list_cost, path_cost};
-ghost use Rattle.fsrm_model.specs.Printed.{body_line};
-ghost use Rattle.fsrm_model.specs.Screens.{except_folder, screen_folder};
-ghost use Rattle.fsrm_model.specs.ScreenText.{mode_word};
-ghost use Rattle.fsrm_model.specs.Text.{list_lines};
-ghost use Rattle.fsrm_model.specs.Valid.{IsValid};
+ghost use Rattle.fsrm_model.specs.commands.Cost.{list_cost, path_cost};
+ghost use Rattle.fsrm_model.specs.texts.Printed.{body_line};
+ghost use Rattle.fsrm_model.specs.objects.Screens.{except_folder, screen_folder};
+ghost use Rattle.fsrm_model.specs.texts.ScreenText.{mode_word};
+ghost use Rattle.fsrm_model.specs.texts.Text.{list_lines};
+ghost use Rattle.fsrm_model.specs.store.Valid.{IsValid};
 ghost use Rattle.fsrm_outside.specs.Causes.{Rose};
 ghost use Rattle.reply_text.specs.Lines.{except_text, screen_text};
 ghost use Rattle.reply_text.specs.Writes.{KeepsCount, Sends};

@@ -1,8 +1,8 @@
 -- How a scan begins.
 use Rattle.std.specs.Prelude.{◌≡◌, ℕ, true, [], Option, Some, None}
-use Rattle.fsrm_model.specs.Scan.{folders_under}
-use Rattle.fsrm_model.specs.Tree.{is_folder}
-use Rattle.fsrm_model.specs.Valid.{IsVolume}
+use Rattle.fsrm_model.specs.objects.Scan.{folders_under}
+use Rattle.fsrm_model.specs.nodes.Tree.{is_folder}
+use Rattle.fsrm_model.specs.store.Valid.{IsVolume}
 use Rattle.rescan.specs.Frontiers.{Front, Room, Follows, Suits}
 use Rattle.volume_tree.specs.Volume.{Volume}
 

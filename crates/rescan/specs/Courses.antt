@@ -3,9 +3,9 @@ use Rattle.std.specs.Prelude.{◌≡◌, ℕ, true, List, None, is_some, if◌th
 use Rattle.std.specs.Option.{option_map_or}
 use Rattle.fsrm_model.specs.declared.row.NodeRow.{NodeRow}
 use Rattle.fsrm_base.specs.Numbers.{is_in}
-use Rattle.fsrm_model.specs.QuotaStates.{head, same_head, scan_begun}
-use Rattle.fsrm_model.specs.Tree.{is_folder}
-use Rattle.fsrm_model.specs.Valid.{IsVolume}
+use Rattle.fsrm_model.specs.objects.QuotaStates.{head, same_head, scan_begun}
+use Rattle.fsrm_model.specs.nodes.Tree.{is_folder}
+use Rattle.fsrm_model.specs.store.Valid.{IsVolume}
 use Rattle.rescan.specs.Frontiers.{Front, Stands, Suits, unvisited}
 use Rattle.volume_tree.specs.Volume.{Volume}
 

@@ -6,9 +6,9 @@ use Rattle.fsrm_model.specs.declared.row.Capacity.{Capacity}
 use Rattle.fsrm_model.specs.declared.row.NodeRow.{NodeRow}
 use Rattle.fsrm_base.specs.Keyed.{with_change}
 use Rattle.fsrm_base.specs.Numbers.{is_in}
-use Rattle.fsrm_model.specs.Scan.{AreUnvisited, is_topmost, counted}
-use Rattle.fsrm_model.specs.Tree.{number, is_folder, chain, children}
-use Rattle.fsrm_model.specs.Valid.{IsVolume}
+use Rattle.fsrm_model.specs.objects.Scan.{AreUnvisited, is_topmost, counted}
+use Rattle.fsrm_model.specs.nodes.Tree.{number, is_folder, chain, children}
+use Rattle.fsrm_model.specs.store.Valid.{IsVolume}
 use Rattle.volume_tree.specs.Volume.{Volume}
 
 -- for which volumes a frontier is: how many nodes they have at most, and the bytes of their clusters

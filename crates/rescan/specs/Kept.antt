@@ -1,6 +1,6 @@
 -- How a frontier's fields hold it.
 use Rattle.std.specs.Prelude.{◌≡◌, ℕ, true, [], Option, None}
-use Rattle.fsrm_model.specs.Capacities.{is_cluster}
+use Rattle.fsrm_model.specs.store.Capacities.{is_cluster}
 use Rattle.number_set.specs.Numbers.{Numbers}
 
 -- no walk is under way, without a scan there is nothing to hold, and clusters have a legal size

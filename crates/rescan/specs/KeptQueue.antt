@@ -3,8 +3,8 @@ use Rattle.std.specs.Prelude.{◌≡◌, ℕ, ◌<◌, ◌≤◌, true, List, []
 use Rattle.std.specs.Global.{Vec}
 use Rattle.std.specs.Vec.{vec_capacity}
 use Rattle.fsrm_base.specs.Numbers.{is_in, each_once}
-use Rattle.fsrm_model.specs.Limits.{most_quotas}
-use Rattle.fsrm_model.specs.QuotaStates.{head}
+use Rattle.fsrm_model.specs.values.Limits.{most_quotas}
+use Rattle.fsrm_model.specs.objects.QuotaStates.{head}
 use Rattle.rescan.specs.Frontiers.{Front}
 
 -- Each folder waits once and is within the frontier's room; the active scan is of the folder at the head, and without

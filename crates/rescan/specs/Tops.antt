@@ -2,7 +2,7 @@
 use Rattle.std.specs.Prelude.{◌≡◌, ℕ, true, List, is_some}
 use Rattle.fsrm_model.specs.declared.row.NodeRow.{NodeRow}
 use Rattle.fsrm_base.specs.Numbers.{is_in, is_set}
-use Rattle.fsrm_model.specs.Tree.{is_folder, is_under}
+use Rattle.fsrm_model.specs.nodes.Tree.{is_folder, is_under}
 use Rattle.rescan.specs.Frontiers.{Front, scanned}
 
 -- folders at or below the scanned one, none of them below another

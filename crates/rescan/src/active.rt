@@ -1,11 +1,11 @@
 //! Steps of the active scan.
 
 ghost use Rattle.std.specs.Prelude.{◌≡◌, ◌+◌, ◌-◌, ◌*◌, ◌≤◌, ◌==◌, true, length, is_some, sum_by, unwrap_or};
-ghost use Rattle.fsrm_model.specs.Cost.{visit_cost};
+ghost use Rattle.fsrm_model.specs.commands.Cost.{visit_cost};
 ghost use Rattle.fsrm_base.specs.Numbers.{without_number, without_numbers};
-ghost use Rattle.fsrm_model.specs.QuotaStates.{head as first};
-ghost use Rattle.fsrm_model.specs.Scan.{visits};
-ghost use Rattle.fsrm_model.specs.Tree.{usage};
+ghost use Rattle.fsrm_model.specs.objects.QuotaStates.{head as first};
+ghost use Rattle.fsrm_model.specs.objects.Scan.{visits};
+ghost use Rattle.fsrm_model.specs.nodes.Tree.{usage};
 ghost use Rattle.rescan.specs.Frontiers.{Stands, Follows, unvisited};
 ghost use Rattle.rescan.specs.Courses.{Scanning, Goes, Turns, left};
 ghost use Rattle.volume_tree.specs.Volume.{Volume};

@@ -3,11 +3,11 @@
 ghost use Rattle.std.specs.Prelude.{◌≡◌, ◌+◌, ◌*◌, ◌≤◌, ◌==◌, true, false, length, Some, []};
 ghost use Rattle.fsrm_model.specs.declared.row.NodeRow.{NodeRow};
 ghost use Rattle.fsrm_base.specs.Keyed.{has_row};
-ghost use Rattle.fsrm_model.specs.Limits.{longest_file};
+ghost use Rattle.fsrm_model.specs.values.Limits.{longest_file};
 ghost use Rattle.fsrm_base.specs.Numbers.{without_number};
-ghost use Rattle.fsrm_model.specs.Scan.{unvisited_with};
-ghost use Rattle.fsrm_model.specs.Tree.{number as key, node_of, is_folder, children, chain};
-ghost use Rattle.fsrm_model.specs.Valid.{IsVolume};
+ghost use Rattle.fsrm_model.specs.objects.Scan.{unvisited_with};
+ghost use Rattle.fsrm_model.specs.nodes.Tree.{number as key, node_of, is_folder, children, chain};
+ghost use Rattle.fsrm_model.specs.store.Valid.{IsVolume};
 ghost use Rattle.rescan.specs.Frontiers.{Stands, Follows, scanned, sized, unvisited as unvisited_of};
 ghost use Rattle.volume_tree.specs.Volume.{without_node};
 

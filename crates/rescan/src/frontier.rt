@@ -1,10 +1,10 @@
 //! The frontier of a scan.
 
 ghost use Rattle.std.specs.Prelude.{◌≡◌, ◌<◌, ◌≤◌, ◌==◌, IfOk, None, Some, true, length, [], ◌∷◌};
-ghost use Rattle.fsrm_model.specs.Capacities.{is_cluster};
-ghost use Rattle.fsrm_model.specs.Scan.{folders_under};
-ghost use Rattle.fsrm_model.specs.Tree.{is_folder, usage};
-ghost use Rattle.fsrm_model.specs.Valid.{IsVolume};
+ghost use Rattle.fsrm_model.specs.store.Capacities.{is_cluster};
+ghost use Rattle.fsrm_model.specs.objects.Scan.{folders_under};
+ghost use Rattle.fsrm_model.specs.nodes.Tree.{is_folder, usage};
+ghost use Rattle.fsrm_model.specs.store.Valid.{IsVolume};
 ghost use Rattle.rescan.specs.Frontiers.{Stands, Follows, Suits, idle, scanned, unvisited as unvisited_of};
 ghost use Rattle.volume_tree.specs.Volume.{Volume};
 

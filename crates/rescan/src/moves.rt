@@ -1,12 +1,12 @@
 //! A scan's way through moves.
 
 ghost use Rattle.std.specs.Prelude.{◌≡◌, ℕ, ◌+◌, ◌*◌, ◌^◌, ◌<◌, ◌≤◌, ◌==◌, List, true, false, is_some, length};
-ghost use Rattle.fsrm_model.specs.Capacities.{is_cluster};
+ghost use Rattle.fsrm_model.specs.store.Capacities.{is_cluster};
 ghost use Rattle.fsrm_base.specs.Keyed.{has_row};
-ghost use Rattle.fsrm_model.specs.Limits.{longest_file};
-ghost use Rattle.fsrm_model.specs.Scan.{unvisited_moved};
-ghost use Rattle.fsrm_model.specs.Tree.{number as key, is_folder, is_under, under, chain};
-ghost use Rattle.fsrm_model.specs.Valid.{IsVolume};
+ghost use Rattle.fsrm_model.specs.values.Limits.{longest_file};
+ghost use Rattle.fsrm_model.specs.objects.Scan.{unvisited_moved};
+ghost use Rattle.fsrm_model.specs.nodes.Tree.{number as key, is_folder, is_under, under, chain};
+ghost use Rattle.fsrm_model.specs.store.Valid.{IsVolume};
 ghost use Rattle.rescan.specs.Frontiers.{Stands, Follows, Suits, scanned, unvisited as unvisited_of};
 ghost use Rattle.rescan.specs.Leaves.{counted_below, is_visited, Leaves};
 ghost use Rattle.rescan.specs.Standings.{standing, share_of, FolderGoes};

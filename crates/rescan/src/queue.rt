@@ -1,11 +1,11 @@
 //! The queue of scans.
 
 ghost use Rattle.std.specs.Prelude.{◌≡◌, ◌<◌, ◌++◌, ◌==◌, ℕ, IfOk, Some, None, true, false, is_some, length, [], ◌∷◌};
-ghost use Rattle.fsrm_model.specs.Capacities.{is_cluster};
+ghost use Rattle.fsrm_model.specs.store.Capacities.{is_cluster};
 ghost use Rattle.fsrm_base.specs.Numbers.{is_in, each_once, without_number};
-ghost use Rattle.fsrm_model.specs.Limits.{most_quotas};
-ghost use Rattle.fsrm_model.specs.QuotaStates.{head as first};
-ghost use Rattle.fsrm_model.specs.Tree.{is_folder};
+ghost use Rattle.fsrm_model.specs.values.Limits.{most_quotas};
+ghost use Rattle.fsrm_model.specs.objects.QuotaStates.{head as first};
+ghost use Rattle.fsrm_model.specs.nodes.Tree.{is_folder};
 ghost use Rattle.rescan.specs.Frontiers.{idle};
 ghost use Rattle.rescan.specs.Beginnings.{Begins};
 ghost use Rattle.rescan.specs.Courses.{Scanning, Turns};

@@ -2,7 +2,7 @@
 
 ghost use Rattle.std.specs.Prelude.{◌≡◌, ◌+◌, ◌≤◌, length, true};
 ghost use Rattle.fsrm_base.specs.Keyed.{has_row};
-ghost use Rattle.fsrm_model.specs.Tree.{number as key, chain};
+ghost use Rattle.fsrm_model.specs.nodes.Tree.{number as key, chain};
 ghost use Rattle.fsrm_model.proofs.nodes.ChainLaws.{IsTree};
 ghost use Rattle.rescan.specs.Tops.{AreTops};
 ghost use Rattle.rescan.specs.Standings.{standing};

@@ -1,8 +1,8 @@
 //! Sums of folders that are made at once, beside the active scan.
 
 ghost use Rattle.std.specs.Prelude.{◌≡◌, ◌+◌, ◌*◌, ◌≤◌, true, length};
-ghost use Rattle.fsrm_model.specs.Tree.{is_folder, under, usage};
-ghost use Rattle.fsrm_model.specs.Valid.{IsVolume};
+ghost use Rattle.fsrm_model.specs.nodes.Tree.{is_folder, under, usage};
+ghost use Rattle.fsrm_model.specs.store.Valid.{IsVolume};
 ghost use Rattle.rescan.specs.Courses.{Scanning};
 ghost use Rattle.rescan.specs.Frontiers.{Suits};
 ghost use Rattle.rescan.specs.Sums.{AreSums};

@@ -3,10 +3,10 @@
 ghost use Rattle.std.specs.Prelude.{◌≡◌, ◌+◌, ◌*◌, ◌^◌, ◌≤◌, ◌<◌, IfOk, length, true, sum_by, slice_index, ℕ};
 ghost use Rattle.fsrm_base.specs.Keyed.{has_row};
 ghost use Rattle.fsrm_base.specs.Numbers.{is_in, is_set, with_numbers};
-ghost use Rattle.fsrm_model.specs.Scan.{next_visit, visit as visited};
-ghost use Rattle.fsrm_model.specs.Space.{space};
-ghost use Rattle.fsrm_model.specs.Tree.{number as key, children};
-ghost use Rattle.fsrm_model.specs.Valid.{IsVolume};
+ghost use Rattle.fsrm_model.specs.objects.Scan.{next_visit, visit as visited};
+ghost use Rattle.fsrm_model.specs.values.Space.{space};
+ghost use Rattle.fsrm_model.specs.nodes.Tree.{number as key, children};
+ghost use Rattle.fsrm_model.specs.store.Valid.{IsVolume};
 ghost use Rattle.rescan.specs.Frontiers.{Stands, Follows, visit_looks, unvisited as unvisited_of};
 ghost use Rattle.rescan.specs.Visits.{folders_in, folders_among, space_of};
 

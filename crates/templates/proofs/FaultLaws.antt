@@ -11,12 +11,12 @@ use Rattle.fsrm_model.specs.declared.command.Update.{Update}
 use Rattle.fsrm_model.specs.declared.row.AutoRow.{AutoRow}
 use Rattle.fsrm_model.specs.declared.row.QuotaRow.{QuotaRow}
 use Rattle.fsrm_model.specs.declared.row.TemplateRow.{TemplateRow}
-use Rattle.fsrm_model.specs.AutoApply.{auto_folder}
-use Rattle.fsrm_model.specs.Limits.{most_templates}
-use Rattle.fsrm_model.specs.Name.{is_named}
-use Rattle.fsrm_model.specs.Templates.{template_name, template_named, template_number, template_of, updated}
-use Rattle.fsrm_model.specs.TemplateWork.{updated_quotas}
-use Rattle.fsrm_model.specs.Texts.{template_bytes}
+use Rattle.fsrm_model.specs.objects.AutoApply.{auto_folder}
+use Rattle.fsrm_model.specs.values.Limits.{most_templates}
+use Rattle.fsrm_model.specs.values.Name.{is_named}
+use Rattle.fsrm_model.specs.objects.Templates.{template_name, template_named, template_number, template_of, updated}
+use Rattle.fsrm_model.specs.commands.TemplateWork.{updated_quotas}
+use Rattle.fsrm_model.specs.values.Texts.{template_bytes}
 use Rattle.fsrm_objects.specs.Tables.{quota_texts}
 use Rattle.templates.specs.declared.answer.TemplateFault.TheVariants.{AlreadyExists, DuplicateName, TableFull, TextsFull}
 use Rattle.templates.specs.Faults.{auto_fault, modify_fault, template_fault, update_fault}

@@ -15,11 +15,11 @@ use Rattle.fsrm_base.proofs.RowLaws.{change_same}
 use Rattle.fsrm_base.proofs.SortedRows.{ascending-set, insert_row, remove_found, row_found, set_found}
 use Rattle.fsrm_model.specs.declared.row.AutoRow.{AutoRow}
 use Rattle.fsrm_model.specs.declared.row.TemplateRow.{TemplateRow}
-use Rattle.fsrm_model.specs.AutoApply.{auto_folder, is_auto}
-use Rattle.fsrm_model.specs.Limits.{most_templates, most_autos}
-use Rattle.fsrm_model.specs.Name.{is_named, names_differ}
-use Rattle.fsrm_model.specs.Templates.{is_template, template_name, template_named, template_number, template_of}
-use Rattle.fsrm_model.specs.Texts.{auto_bytes, template_bytes}
+use Rattle.fsrm_model.specs.objects.AutoApply.{auto_folder, is_auto}
+use Rattle.fsrm_model.specs.values.Limits.{most_templates, most_autos}
+use Rattle.fsrm_model.specs.values.Name.{is_named, names_differ}
+use Rattle.fsrm_model.specs.objects.Templates.{is_template, template_name, template_named, template_number, template_of}
+use Rattle.fsrm_model.specs.values.Texts.{auto_bytes, template_bytes}
 use Rattle.fsrm_model.proofs.valid.NamesApart.{apart-filter, apart-with_change, apart-with_row, there-with_row}
 use Rattle.fsrm_model.proofs.valid.ScreensKept.{all_apart, all_weaker}
 use Rattle.fsrm_objects.specs.Kept.{AreHeld as AreRows}

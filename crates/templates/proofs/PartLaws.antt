@@ -9,13 +9,13 @@ use Rattle.fsrm_model.specs.declared.row.AutoRow.{AutoRow}
 use Rattle.fsrm_model.specs.declared.row.QuotaState.TheVariants.{Complete}
 use Rattle.fsrm_model.specs.declared.row.TemplateRow.{TemplateRow}
 use Rattle.fsrm_model.specs.declared.row.Threshold.{Threshold}
-use Rattle.fsrm_model.specs.AutoApply.{is_auto}
-use Rattle.fsrm_model.specs.Limits.{longest_action_text, longest_name, most_excluded, most_templates}
-use Rattle.fsrm_model.specs.Name.{is_name, is_name_byte}
-use Rattle.fsrm_model.specs.Patterns.{is_object_byte, is_object_name}
-use Rattle.fsrm_model.specs.Templates.{derived, is_template}
-use Rattle.fsrm_model.specs.Texts.{auto_bytes, template_bytes, threshold_bytes}
-use Rattle.fsrm_model.specs.Thresholds.{are_minutes, are_thresholds, are_too_many, is_action, is_action_text, is_kept_action, is_percent, is_printing, is_threshold, percent_of}
+use Rattle.fsrm_model.specs.objects.AutoApply.{is_auto}
+use Rattle.fsrm_model.specs.values.Limits.{longest_action_text, longest_name, most_excluded, most_templates}
+use Rattle.fsrm_model.specs.values.Name.{is_name, is_name_byte}
+use Rattle.fsrm_model.specs.values.Patterns.{is_object_byte, is_object_name}
+use Rattle.fsrm_model.specs.objects.Templates.{derived, is_template}
+use Rattle.fsrm_model.specs.values.Texts.{auto_bytes, template_bytes, threshold_bytes}
+use Rattle.fsrm_model.specs.objects.Thresholds.{are_minutes, are_thresholds, are_too_many, is_action, is_action_text, is_kept_action, is_percent, is_printing, is_threshold, percent_of}
 use Rattle.fsrm_model.proofs.valid.ScreensKept.{all_weaker}
 use Rattle.fsrm_model.proofs.valid.TemplatesKept.{template_joined, template_parts}
 use Rattle.fsrm_objects.specs.Tables.{is_short}

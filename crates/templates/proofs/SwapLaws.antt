@@ -10,8 +10,8 @@ use Rattle.fsrm_base.proofs.SortedRows.{later_above}
 use Rattle.fsrm_base.proofs.TestLaws.{eq_is, is_apart, neither}
 use Rattle.fsrm_model.specs.declared.row.QuotaRow.{QuotaRow}
 use Rattle.fsrm_model.specs.declared.row.TemplateRow.{TemplateRow}
-use Rattle.fsrm_model.specs.Quota.{folder_of}
-use Rattle.fsrm_model.specs.Templates.{as_template}
+use Rattle.fsrm_model.specs.objects.Quota.{folder_of}
+use Rattle.fsrm_model.specs.objects.Templates.{as_template}
 use Rattle.templates.specs.Held.{with_replaced}
 
 -- ---- what a folder has while those of others are replaced

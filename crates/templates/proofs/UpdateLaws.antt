@@ -16,10 +16,10 @@ use Rattle.fsrm_base.proofs.TestLaws.{both, both_true, clash, eq_is, is_false, l
 use Rattle.fsrm_model.specs.declared.command.Update.{Update}
 use Rattle.fsrm_model.specs.declared.row.QuotaRow.{QuotaRow}
 use Rattle.fsrm_model.specs.declared.row.TemplateRow.{TemplateRow}
-use Rattle.fsrm_model.specs.Quota.{folder_of}
-use Rattle.fsrm_model.specs.Templates.{as_template, is_reached, is_template, updated}
-use Rattle.fsrm_model.specs.Texts.{quota_bytes, threshold_bytes}
-use Rattle.fsrm_model.specs.Thresholds.{are_too_many}
+use Rattle.fsrm_model.specs.objects.Quota.{folder_of}
+use Rattle.fsrm_model.specs.objects.Templates.{as_template, is_reached, is_template, updated}
+use Rattle.fsrm_model.specs.values.Texts.{quota_bytes, threshold_bytes}
+use Rattle.fsrm_model.specs.objects.Thresholds.{are_too_many}
 use Rattle.fsrm_model.proofs.templates.PutLaws.{put_each}
 use Rattle.fsrm_model.proofs.valid.TemplatesKept.{template_parts}
 use Rattle.fsrm_objects.specs.Kept.{AreSmallQuotas}

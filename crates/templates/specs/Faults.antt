@@ -7,11 +7,11 @@ use Rattle.fsrm_model.specs.declared.command.Update.{Update}
 use Rattle.fsrm_model.specs.declared.row.AutoRow.{AutoRow}
 use Rattle.fsrm_model.specs.declared.row.QuotaRow.{QuotaRow}
 use Rattle.fsrm_model.specs.declared.row.TemplateRow.{TemplateRow}
-use Rattle.fsrm_model.specs.AutoApply.{auto_folder}
-use Rattle.fsrm_model.specs.Limits.{most_templates, most_autos}
-use Rattle.fsrm_model.specs.Name.{is_named}
-use Rattle.fsrm_model.specs.Templates.{template_name, updated}
-use Rattle.fsrm_model.specs.Texts.{auto_bytes, template_bytes}
+use Rattle.fsrm_model.specs.objects.AutoApply.{auto_folder}
+use Rattle.fsrm_model.specs.values.Limits.{most_templates, most_autos}
+use Rattle.fsrm_model.specs.values.Name.{is_named}
+use Rattle.fsrm_model.specs.objects.Templates.{template_name, updated}
+use Rattle.fsrm_model.specs.values.Texts.{auto_bytes, template_bytes}
 use Rattle.fsrm_objects.specs.Tables.{quota_texts}
 use Rattle.templates.specs.declared.answer.TemplateFault.{TemplateFault}
 use Rattle.templates.specs.declared.answer.TemplateFault.TheVariants.{DuplicateName, AlreadyExists, InUse, TableFull, TextsFull, NoMemory}

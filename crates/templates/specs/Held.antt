@@ -6,12 +6,12 @@ use Rattle.fsrm_model.specs.declared.command.Update.{Update}
 use Rattle.fsrm_model.specs.declared.row.AutoRow.{AutoRow}
 use Rattle.fsrm_model.specs.declared.row.QuotaRow.{QuotaRow}
 use Rattle.fsrm_model.specs.declared.row.TemplateRow.{TemplateRow}
-use Rattle.fsrm_model.specs.AutoApply.{auto_folder}
-use Rattle.fsrm_model.specs.Quota.{folder_of}
-use Rattle.fsrm_model.specs.Templates.{is_reached, template_number, template_of}
-use Rattle.fsrm_model.specs.TemplateWork.{updated_quotas}
-use Rattle.fsrm_model.specs.Texts.{auto_bytes, template_bytes}
-use Rattle.fsrm_model.specs.Thresholds.{are_too_many}
+use Rattle.fsrm_model.specs.objects.AutoApply.{auto_folder}
+use Rattle.fsrm_model.specs.objects.Quota.{folder_of}
+use Rattle.fsrm_model.specs.objects.Templates.{is_reached, template_number, template_of}
+use Rattle.fsrm_model.specs.commands.TemplateWork.{updated_quotas}
+use Rattle.fsrm_model.specs.values.Texts.{auto_bytes, template_bytes}
+use Rattle.fsrm_model.specs.objects.Thresholds.{are_too_many}
 use Rattle.fsrm_objects.specs.Tables.{has_short_texts}
 
 -- the rows of both tables

@@ -2,10 +2,10 @@
 use Rattle.std.specs.Prelude.{◌≡◌, ℕ, ◌≤◌, true, length}
 use Rattle.std.specs.List.{list_all}
 use Rattle.fsrm_base.specs.Keyed.{has_row, is_ascending}
-use Rattle.fsrm_model.specs.AutoApply.{auto_folder, is_auto}
-use Rattle.fsrm_model.specs.Limits.{most_templates, most_autos}
-use Rattle.fsrm_model.specs.Name.{names_differ}
-use Rattle.fsrm_model.specs.Templates.{is_template, template_name, template_number}
+use Rattle.fsrm_model.specs.objects.AutoApply.{auto_folder, is_auto}
+use Rattle.fsrm_model.specs.values.Limits.{most_templates, most_autos}
+use Rattle.fsrm_model.specs.values.Name.{names_differ}
+use Rattle.fsrm_model.specs.objects.Templates.{is_template, template_name, template_number}
 use Rattle.templates.specs.Held.{Held, texts_in}
 
 -- Templates in the order of their numbers, no two of one name, and auto-apply quotas in the order of their folders. Each row is

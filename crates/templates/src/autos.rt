@@ -3,9 +3,9 @@
 ghost use Rattle.std.specs.Prelude.{◌≡◌, ◌<◌, IfErr, IfSome, OnOk, OnErr, None, Some, true, false, length, slice_get};
 ghost use Rattle.std.specs.Option.{option_copied};
 ghost use Rattle.fsrm_base.specs.Keyed.{has_row, row_of};
-ghost use Rattle.fsrm_model.specs.AutoApply.{auto_folder, is_auto, template_for};
-ghost use Rattle.fsrm_model.specs.Limits.{most_autos};
-ghost use Rattle.fsrm_model.specs.Templates.{template_number};
+ghost use Rattle.fsrm_model.specs.objects.AutoApply.{auto_folder, is_auto, template_for};
+ghost use Rattle.fsrm_model.specs.values.Limits.{most_autos};
+ghost use Rattle.fsrm_model.specs.objects.Templates.{template_number};
 ghost use Rattle.templates.specs.Faults.{IsFault, auto_fault};
 ghost use Rattle.templates.specs.Held.{with_auto, without_auto};
 

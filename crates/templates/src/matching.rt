@@ -2,7 +2,7 @@
 
 ghost use Rattle.std.specs.Prelude.{◌≡◌};
 ghost use Rattle.std.specs.Cmp.Lexicographic.{pointwise};
-ghost use Rattle.fsrm_model.specs.Templates.{is_derived, is_reached, matches_template, same_action, same_threshold};
+ghost use Rattle.fsrm_model.specs.objects.Templates.{is_derived, is_reached, matches_template, same_action, same_threshold};
 
 use fsrm_model::{Action, QuotaRow, TemplateRow, Threshold, Update};
 

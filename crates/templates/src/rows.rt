@@ -2,9 +2,9 @@
 
 ghost use Rattle.std.specs.Prelude.{◌≡◌, ◌==◌, ◌<◌, ◌^◌, option_map};
 ghost use Rattle.std.specs.List.{list_any};
-ghost use Rattle.fsrm_model.specs.AutoApply.{excludes};
-ghost use Rattle.fsrm_model.specs.Templates.{template_named, template_number};
-ghost use Rattle.fsrm_model.specs.Texts.{auto_bytes, template_bytes};
+ghost use Rattle.fsrm_model.specs.objects.AutoApply.{excludes};
+ghost use Rattle.fsrm_model.specs.objects.Templates.{template_named, template_number};
+ghost use Rattle.fsrm_model.specs.values.Texts.{auto_bytes, template_bytes};
 
 use fsrm_base::places::Key;
 use fsrm_base::room::left_of_texts;
@@ -16,7 +16,7 @@ use name_rules::same_name;
 pub struct ByNumber;
 
 impl Key for ByNumber {
-    ghost use Rattle.fsrm_model.specs.Templates.{template_number};
+    ghost use Rattle.fsrm_model.specs.objects.Templates.{template_number};
 
     type Row = TemplateRow;
 
@@ -31,7 +31,7 @@ impl Key for ByNumber {
 pub struct ByFolder;
 
 impl Key for ByFolder {
-    ghost use Rattle.fsrm_model.specs.AutoApply.{auto_folder};
+    ghost use Rattle.fsrm_model.specs.objects.AutoApply.{auto_folder};
 
     type Row = AutoRow;
 

@@ -9,7 +9,7 @@ use Rattle.fsrm_model.specs.declared.command.Subject.TheVariants.{Quota}
 use Rattle.fsrm_model.specs.declared.row.Action.{Action}
 use Rattle.fsrm_model.specs.declared.row.QuotaRow.{QuotaRow}
 use Rattle.fsrm_model.specs.declared.row.Threshold.{Threshold}
-use Rattle.fsrm_model.specs.DueActions.{act_of}
+use Rattle.fsrm_model.specs.objects.DueActions.{act_of}
 use Rattle.thresholds.specs.Marked.{act_at, act_in, action_at, quota_place, threshold_place, action_place}
 
 -- ---- the digits of a number that is made of them

@@ -5,8 +5,8 @@ use Rattle.circular_buffer.specs.Buffer.{Buffer, buffer, keep_last}
 use Rattle.fsrm_base.specs.Numbers.{is_set, with_number}
 use Rattle.fsrm_base.proofs.NumberLaws.{set_with}
 use Rattle.fsrm_model.specs.declared.row.ActRow.{ActRow}
-use Rattle.fsrm_model.specs.Limits.{most_entries}
-use Rattle.fsrm_model.specs.Runs.{last_entries}
+use Rattle.fsrm_model.specs.values.Limits.{most_entries}
+use Rattle.fsrm_model.specs.objects.Runs.{last_entries}
 use Rattle.fsrm_model.proofs.thresholds.RunLaws.{few_entries}
 use Rattle.number_set.specs.Numbers.{Numbers}
 use Rattle.number_set.proofs.TakenLaws.{rest_set}

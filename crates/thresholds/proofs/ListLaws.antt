@@ -10,7 +10,7 @@ use Rattle.fsrm_model.specs.declared.command.Subject.{Subject}
 use Rattle.fsrm_model.specs.declared.command.Subject.TheVariants.{Quota}
 use Rattle.fsrm_model.specs.declared.row.Action.{Action}
 use Rattle.fsrm_model.specs.declared.row.Threshold.{Threshold}
-use Rattle.fsrm_model.specs.DueActions.{ready, act_of, ready_acts}
+use Rattle.fsrm_model.specs.objects.DueActions.{ready, act_of, ready_acts}
 
 -- one more item
 pub take_next : {X : Type 0} (xs : List X) (k : ℕ) (x : X) → slice_get xs k ≡ Some x → take (k + 1) xs ≡ take k xs ++ x ∷ []

@@ -11,9 +11,9 @@ use Rattle.fsrm_model.specs.declared.command.Act.{Act}
 use Rattle.fsrm_model.specs.declared.command.Subject.TheVariants.{Quota}
 use Rattle.fsrm_model.specs.declared.row.ActionKind.{ActionKind}
 use Rattle.fsrm_model.specs.declared.row.QuotaRow.{QuotaRow}
-use Rattle.fsrm_model.specs.Acts.{act_before}
-use Rattle.fsrm_model.specs.Quota.{folder_of}
-use Rattle.fsrm_model.specs.Thresholds.{percent_of, are_too_many}
+use Rattle.fsrm_model.specs.objects.Acts.{act_before}
+use Rattle.fsrm_model.specs.objects.Quota.{folder_of}
+use Rattle.fsrm_model.specs.objects.Thresholds.{percent_of, are_too_many}
 use Rattle.thresholds.specs.Marked.{act_at, waiting, are_there, quota_place, threshold_place, action_place}
 use Rattle.thresholds.specs.Settled.{are_orderly, has_orderly_lists}
 use Rattle.thresholds.proofs.Decoded.{Found, found, found_act, found_is, earlier}

@@ -4,7 +4,7 @@ use Rattle.std.specs.List.{list_any}
 use Rattle.fsrm_base.proofs.TestLaws.{le_is, le_test}
 use Rattle.fsrm_model.specs.declared.row.QuotaRow.{QuotaRow}
 use Rattle.fsrm_model.specs.declared.row.Threshold.{Threshold}
-use Rattle.fsrm_model.specs.Reached.{reaches}
+use Rattle.fsrm_model.specs.objects.Reached.{reaches}
 use Rattle.thresholds.specs.Settled.{crosses_any}
 
 -- what is reached with less is reached

@@ -13,10 +13,10 @@ use Rattle.fsrm_model.specs.declared.row.Action.{Action}
 use Rattle.fsrm_model.specs.declared.row.ActionKind.{ActionKind}
 use Rattle.fsrm_model.specs.declared.row.QuotaRow.{QuotaRow}
 use Rattle.fsrm_model.specs.declared.row.Threshold.{Threshold}
-use Rattle.fsrm_model.specs.Acts.{has_act, same_subject}
-use Rattle.fsrm_model.specs.Quota.{folder_of}
-use Rattle.fsrm_model.specs.Runs.{run_actions, run_threshold, run_quota}
-use Rattle.fsrm_model.specs.Thresholds.{percent_of}
+use Rattle.fsrm_model.specs.objects.Acts.{has_act, same_subject}
+use Rattle.fsrm_model.specs.objects.Quota.{folder_of}
+use Rattle.fsrm_model.specs.objects.Runs.{run_actions, run_threshold, run_quota}
+use Rattle.fsrm_model.specs.objects.Thresholds.{percent_of}
 use Rattle.fsrm_model.proofs.thresholds.DueLaws.{each}
 use Rattle.fsrm_model.proofs.thresholds.RunLaws.{with_run, unrun_quota}
 use Rattle.fsrm_objects.specs.Tables.{ran_at, run_threshold_at, run_quota_at}

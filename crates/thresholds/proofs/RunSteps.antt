@@ -14,10 +14,10 @@ use Rattle.fsrm_model.specs.declared.command.Act.{Act}
 use Rattle.fsrm_model.specs.declared.row.Action.{Action}
 use Rattle.fsrm_model.specs.declared.row.QuotaRow.{QuotaRow}
 use Rattle.fsrm_model.specs.declared.row.Threshold.{Threshold}
-use Rattle.fsrm_model.specs.Acts.{folder_in, percent_in}
-use Rattle.fsrm_model.specs.Quota.{folder_of}
-use Rattle.fsrm_model.specs.Runs.{run_quota, run_threshold, last_entries}
-use Rattle.fsrm_model.specs.Thresholds.{percent_of, actions_at, are_too_many}
+use Rattle.fsrm_model.specs.objects.Acts.{folder_in, percent_in}
+use Rattle.fsrm_model.specs.objects.Quota.{folder_of}
+use Rattle.fsrm_model.specs.objects.Runs.{run_quota, run_threshold, last_entries}
+use Rattle.fsrm_model.specs.objects.Thresholds.{percent_of, actions_at, are_too_many}
 use Rattle.fsrm_model.proofs.thresholds.KeptLaws.{many_run}
 use Rattle.fsrm_objects.specs.Tables.{Tables, HasAction, with_run}
 use Rattle.thresholds.specs.Marked.{Marked, act_at, waiting, are_there, quota_place, threshold_place, action_place}

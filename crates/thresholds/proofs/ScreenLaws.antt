@@ -16,11 +16,11 @@ use Rattle.fsrm_model.specs.declared.command.Subject.TheVariants.{Screen}
 use Rattle.fsrm_model.specs.declared.row.Action.{Action}
 use Rattle.fsrm_model.specs.declared.row.ActionKind.{ActionKind}
 use Rattle.fsrm_model.specs.declared.row.ScreenRow.{ScreenRow}
-use Rattle.fsrm_model.specs.Acts.{has_act}
-use Rattle.fsrm_model.specs.DueActions.{act_of, due_screen, ready, ready_acts}
-use Rattle.fsrm_model.specs.Limits.{most_entries}
-use Rattle.fsrm_model.specs.Runs.{entry_of, last_entries, run_screen}
-use Rattle.fsrm_model.specs.Screens.{screen_folder}
+use Rattle.fsrm_model.specs.objects.Acts.{has_act}
+use Rattle.fsrm_model.specs.objects.DueActions.{act_of, due_screen, ready, ready_acts}
+use Rattle.fsrm_model.specs.values.Limits.{most_entries}
+use Rattle.fsrm_model.specs.objects.Runs.{entry_of, last_entries, run_screen}
+use Rattle.fsrm_model.specs.objects.Screens.{screen_folder}
 use Rattle.fsrm_model.proofs.thresholds.DueLaws.{each}
 use Rattle.fsrm_model.proofs.thresholds.RunLaws.{run_at, short_log, with_run}
 use Rattle.fsrm_model.proofs.thresholds.UnrunLaws.{screens_unrun}

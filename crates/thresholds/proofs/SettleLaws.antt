@@ -6,9 +6,9 @@ use Rattle.std.specs.Prelude.{map}
 use Rattle.std.specs.List.{cons_option}
 use Rattle.fsrm_base.specs.Numbers.{with_number}
 use Rattle.fsrm_model.specs.declared.command.Act.{Act}
-use Rattle.fsrm_model.specs.Acts.{has_act}
-use Rattle.fsrm_model.specs.Limits.{most_entries}
-use Rattle.fsrm_model.specs.Runs.{last_entries, entry_of}
+use Rattle.fsrm_model.specs.objects.Acts.{has_act}
+use Rattle.fsrm_model.specs.values.Limits.{most_entries}
+use Rattle.fsrm_model.specs.objects.Runs.{last_entries, entry_of}
 use Rattle.fsrm_model.proofs.thresholds.RunLaws.{short_log}
 use Rattle.fsrm_objects.specs.Tables.{Tables}
 use Rattle.thresholds.specs.Marked.{Marked, act_at, waiting, are_there}

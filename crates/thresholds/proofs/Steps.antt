@@ -17,12 +17,12 @@ use Rattle.fsrm_model.specs.declared.command.Subject.TheVariants.{Quota}
 use Rattle.fsrm_model.specs.declared.row.Action.{Action}
 use Rattle.fsrm_model.specs.declared.row.QuotaRow.{QuotaRow}
 use Rattle.fsrm_model.specs.declared.row.Threshold.{Threshold}
-use Rattle.fsrm_model.specs.Acts.{has_act, same_subject}
-use Rattle.fsrm_model.specs.DueActions.{ready, act_of, ready_acts, quota_acts, is_ready_at}
-use Rattle.fsrm_model.specs.Quota.{folder_of}
-use Rattle.fsrm_model.specs.Reached.{has_reached, reaches}
-use Rattle.fsrm_model.specs.Runs.{run_threshold, run_quota}
-use Rattle.fsrm_model.specs.Thresholds.{percent_of, is_crowded, are_too_many}
+use Rattle.fsrm_model.specs.objects.Acts.{has_act, same_subject}
+use Rattle.fsrm_model.specs.objects.DueActions.{ready, act_of, ready_acts, quota_acts, is_ready_at}
+use Rattle.fsrm_model.specs.objects.Quota.{folder_of}
+use Rattle.fsrm_model.specs.objects.Reached.{has_reached, reaches}
+use Rattle.fsrm_model.specs.objects.Runs.{run_threshold, run_quota}
+use Rattle.fsrm_model.specs.objects.Thresholds.{percent_of, is_crowded, are_too_many}
 use Rattle.fsrm_model.proofs.thresholds.DueLaws.{any-map, ready_run}
 use Rattle.fsrm_model.proofs.thresholds.RunLaws.{with_run, run_at}
 use Rattle.fsrm_objects.specs.Tables.{Tables}

@@ -14,9 +14,9 @@ use Rattle.fsrm_model.specs.declared.command.Subject.TheVariants.{Quota}
 use Rattle.fsrm_model.specs.declared.row.Action.{Action}
 use Rattle.fsrm_model.specs.declared.row.QuotaRow.{QuotaRow}
 use Rattle.fsrm_model.specs.declared.row.Threshold.{Threshold}
-use Rattle.fsrm_model.specs.Acts.{has_act, same_subject}
-use Rattle.fsrm_model.specs.DueActions.{act_of}
-use Rattle.fsrm_model.specs.Runs.{run_actions, run_threshold, run_quota}
+use Rattle.fsrm_model.specs.objects.Acts.{has_act, same_subject}
+use Rattle.fsrm_model.specs.objects.DueActions.{act_of}
+use Rattle.fsrm_model.specs.objects.Runs.{run_actions, run_threshold, run_quota}
 use Rattle.fsrm_model.proofs.thresholds.RunLaws.{with_run, run_at}
 use Rattle.thresholds.specs.Marked.{act_at, act_in, waiting, are_there, quota_place, threshold_place, action_place}
 

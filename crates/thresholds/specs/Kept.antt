@@ -3,7 +3,7 @@ use Rattle.std.specs.Prelude.{◌≡◌, ℕ, ◌≤◌, true, length}
 use Rattle.circular_buffer.specs.Buffer.{Buffer}
 use Rattle.fsrm_base.specs.Numbers.{is_set}
 use Rattle.fsrm_model.specs.declared.row.ActRow.{ActRow}
-use Rattle.fsrm_model.specs.Limits.{most_actions, most_entries}
+use Rattle.fsrm_model.specs.values.Limits.{most_actions, most_entries}
 use Rattle.number_set.specs.Numbers.{Numbers}
 use Rattle.thresholds.specs.Marked.{most_marks}
 

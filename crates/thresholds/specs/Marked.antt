@@ -10,9 +10,9 @@ use Rattle.fsrm_model.specs.declared.row.Action.{Action}
 use Rattle.fsrm_model.specs.declared.row.QuotaRow.{QuotaRow}
 use Rattle.fsrm_model.specs.declared.row.ScreenRow.{ScreenRow}
 use Rattle.fsrm_model.specs.declared.row.Threshold.{Threshold}
-use Rattle.fsrm_model.specs.DueActions.{act_of}
-use Rattle.fsrm_model.specs.Limits.{most_quotas, most_thresholds, most_actions}
-use Rattle.fsrm_model.specs.Screens.{screen_folder}
+use Rattle.fsrm_model.specs.objects.DueActions.{act_of}
+use Rattle.fsrm_model.specs.values.Limits.{most_quotas, most_thresholds, most_actions}
+use Rattle.fsrm_model.specs.objects.Screens.{screen_folder}
 use Rattle.fsrm_objects.specs.Tables.{Tables}
 
 -- what marks are to their callers: the numbers of the marked actions of quotas, ascending, and the log, the oldest entry first.

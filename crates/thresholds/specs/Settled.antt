@@ -8,14 +8,14 @@ use Rattle.fsrm_model.specs.declared.command.Subject.{Subject}
 use Rattle.fsrm_model.specs.declared.command.Subject.TheVariants.{Quota}
 use Rattle.fsrm_model.specs.declared.row.QuotaRow.{QuotaRow}
 use Rattle.fsrm_model.specs.declared.row.Threshold.{Threshold}
-use Rattle.fsrm_model.specs.Acts.{has_act}
-use Rattle.fsrm_model.specs.DueActions.{due_screen, ready_acts, quota_acts}
-use Rattle.fsrm_model.specs.Limits.{most_quotas}
-use Rattle.fsrm_model.specs.Quota.{folder_of}
-use Rattle.fsrm_model.specs.Reached.{has_reached, reaches}
-use Rattle.fsrm_model.specs.Runs.{run_quota, run_screen, last_entries, entry_of}
-use Rattle.fsrm_model.specs.Screens.{screen_folder}
-use Rattle.fsrm_model.specs.Thresholds.{percent_of, are_too_many}
+use Rattle.fsrm_model.specs.objects.Acts.{has_act}
+use Rattle.fsrm_model.specs.objects.DueActions.{due_screen, ready_acts, quota_acts}
+use Rattle.fsrm_model.specs.values.Limits.{most_quotas}
+use Rattle.fsrm_model.specs.objects.Quota.{folder_of}
+use Rattle.fsrm_model.specs.objects.Reached.{has_reached, reaches}
+use Rattle.fsrm_model.specs.objects.Runs.{run_quota, run_screen, last_entries, entry_of}
+use Rattle.fsrm_model.specs.objects.Screens.{screen_folder}
+use Rattle.fsrm_model.specs.objects.Thresholds.{percent_of, are_too_many}
 use Rattle.fsrm_objects.specs.Tables.{Tables}
 use Rattle.thresholds.specs.Marked.{Marked, are_screen_acts, are_there, screen_waiting, waiting}
 

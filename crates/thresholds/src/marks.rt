@@ -5,10 +5,10 @@ ghost use Rattle.std.specs.List.{list_all};
 ghost use Rattle.std.specs.Option.{option_copied};
 ghost use Rattle.fsrm_base.specs.Keyed.{has_row};
 ghost use Rattle.fsrm_base.specs.Numbers.{is_set};
-ghost use Rattle.fsrm_model.specs.Acts.{act_before, is_of_quota};
-ghost use Rattle.fsrm_model.specs.Limits.{most_entries};
-ghost use Rattle.fsrm_model.specs.Quota.{folder_of};
-ghost use Rattle.fsrm_model.specs.Runs.{last_entries};
+ghost use Rattle.fsrm_model.specs.objects.Acts.{act_before, is_of_quota};
+ghost use Rattle.fsrm_model.specs.values.Limits.{most_entries};
+ghost use Rattle.fsrm_model.specs.objects.Quota.{folder_of};
+ghost use Rattle.fsrm_model.specs.objects.Runs.{last_entries};
 ghost use Rattle.thresholds.specs.Marked.{act_at, action_at, all_waiting, are_screen_acts, are_there, most_marks, waiting};
 ghost use Rattle.thresholds.specs.Settled.{Settles, are_orderly, due_in, ready_in, IsThreshold};
 

@@ -3,9 +3,9 @@
 ghost use Rattle.std.specs.Prelude.{◌≡◌, ◌<◌, length, slice_get, option_map, Some, unwrap_or};
 ghost use Rattle.std.specs.Option.{option_copied};
 ghost use Rattle.fsrm_base.specs.Keyed.{has_row};
-ghost use Rattle.fsrm_model.specs.DueActions.{minutes_of, ready};
-ghost use Rattle.fsrm_model.specs.Reached.{reaches, has_reached};
-ghost use Rattle.fsrm_model.specs.Thresholds.{percent_of};
+ghost use Rattle.fsrm_model.specs.objects.DueActions.{minutes_of, ready};
+ghost use Rattle.fsrm_model.specs.objects.Reached.{reaches, has_reached};
+ghost use Rattle.fsrm_model.specs.objects.Thresholds.{percent_of};
 ghost use Rattle.thresholds.specs.Settled.{crosses, crosses_any};
 
 use fsrm_model::{Action, QuotaRow, Threshold};

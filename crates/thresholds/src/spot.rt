@@ -1,7 +1,7 @@
 //! Where an action of a quota stands, and its number.
 
 ghost use Rattle.std.specs.Prelude.{◌≡◌, ◌+◌, ◌*◌, ◌<◌};
-ghost use Rattle.fsrm_model.specs.Limits.{most_actions, most_quotas, most_thresholds};
+ghost use Rattle.fsrm_model.specs.values.Limits.{most_actions, most_quotas, most_thresholds};
 ghost use Rattle.thresholds.specs.Marked.{action_place, most_marks, most_of_quota, quota_place, threshold_place};
 
 use fsrm_model::limits::{MOST_ACTIONS, MOST_QUOTAS, MOST_THRESHOLDS};

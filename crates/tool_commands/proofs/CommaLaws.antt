@@ -6,8 +6,8 @@ use Rattle.fsrm_base.proofs.TestLaws.{le_test, not_le}
 use Rattle.fsrm_model.specs.declared.command.Added.{Added}
 use Rattle.fsrm_model.specs.declared.command.Refusal.TheVariants.{BadLine}
 use Rattle.fsrm_model.specs.declared.row.Action.{Action}
-use Rattle.fsrm_model.specs.ActionWords.{action_from, is_comma, notice_from, percent_from, with_commas}
-use Rattle.fsrm_model.specs.Reading.{Read, ◌>>=◌, guarded}
+use Rattle.fsrm_model.specs.texts.ActionWords.{action_from, is_comma, notice_from, percent_from, with_commas}
+use Rattle.fsrm_model.specs.lines.Reading.{Read, ◌>>=◌, guarded}
 use Rattle.fsrm_model.proofs.lines.ActionLaws.{commas, none_counted, one_counted}
 use Rattle.tool_commands.specs.ActionParts.{IsParted, AreParts, has_action_commas, action_of, added_from}
 use Rattle.tool_commands.proofs.OptionLaws.{none_passes, one_passes}

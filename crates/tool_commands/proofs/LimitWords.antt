@@ -10,8 +10,8 @@ use Rattle.std.proofs.lemmas.Bool.Decides.{nat_tests}
 use Rattle.std.proofs.Math.Nat.{mul-le-mul_left}
 use Rattle.std.proofs.lemmas.Str.Parse.{IsNumeralModel, numerals_by_value, parse_digits}
 use Rattle.fsrm_model.specs.declared.command.Refusal.TheVariants.{InvalidLimit}
-use Rattle.fsrm_model.specs.Quota.{is_limit}
-use Rattle.fsrm_model.specs.Reading.{guarded}
+use Rattle.fsrm_model.specs.objects.Quota.{is_limit}
+use Rattle.fsrm_model.specs.lines.Reading.{guarded}
 use Rattle.tool_commands.proofs.Fronts.{front_end}
 
 -- digits have the value of a numeral

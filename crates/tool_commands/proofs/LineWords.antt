@@ -11,8 +11,8 @@ use Rattle.std.proofs.lemmas.Str.{IsCharBoundary-end, IsCharBoundary-before_asci
 use Rattle.std.proofs.Math.ListN.{drop_of_length-le}
 use Rattle.std.proofs.Math.Seq.{drop-cons}
 use Rattle.std.specs.Str.{IsUtf8, IsCharBoundary}
-use Rattle.fsrm_model.specs.Spelling.{EndsWord}
-use Rattle.fsrm_model.specs.Words.{Word, is_blank, is_quote, parts_from, words_at, without_quotes}
+use Rattle.fsrm_model.specs.meaning.Spelling.{EndsWord}
+use Rattle.fsrm_model.specs.lines.Words.{Word, is_blank, is_quote, parts_from, words_at, without_quotes}
 use Rattle.fsrm_base.proofs.TestLaws.{both, eq_below, lt_is}
 use Rattle.tool_commands.specs.Lengths.{is_plain, IsPlainWord, word_length}
 use Rattle.tool_commands.specs.Taking.{first_column}

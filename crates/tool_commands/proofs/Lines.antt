@@ -13,12 +13,12 @@ use Rattle.std.proofs.lemmas.List.Sums.{prefix_len-le-length}
 use Rattle.tool_commands.proofs.WordLengths.{prefix_len-after}
 use Rattle.std.proofs.lemmas.Str.{IsUtf8-from_is_utf8, is_utf8-from_IsUtf8}
 use Rattle.fsrm_model.specs.declared.command.Refusal.TheVariants.{BadLine}
-use Rattle.fsrm_model.specs.Line.{read_line, read_words, is_skipped}
+use Rattle.fsrm_model.specs.lines.Line.{read_line, read_words, is_skipped}
 use Rattle.fsrm_model.specs.declared.command.Command.{Command}
-use Rattle.fsrm_model.specs.Valued.{is_command}
+use Rattle.fsrm_model.specs.store.Valued.{is_command}
 use Rattle.fsrm_model.proofs.lines.SpelledValues.{spelled_valid}
 use Rattle.fsrm_model.proofs.lines.SpellingLaws.{read_spells}
-use Rattle.fsrm_model.specs.Words.{is_blank}
+use Rattle.fsrm_model.specs.lines.Words.{is_blank}
 use Rattle.tool_commands.specs.LineFaults.{IsFault, Reads, ReadsWords}
 use Rattle.tool_commands.specs.declared.reading.LineFault.{LineFault}
 use Rattle.tool_commands.specs.declared.reading.LineFault.TheVariants.{Refused, NoMemory}

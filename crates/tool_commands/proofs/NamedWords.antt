@@ -4,11 +4,11 @@ use Rattle.std.specs.Prelude.{Ok, Err, Option, Some, None, Result}
 use Rattle.fsrm_model.specs.declared.command.Command.{Command}
 use Rattle.fsrm_model.specs.declared.command.Deed.{Deed}
 use Rattle.fsrm_model.specs.declared.command.Refusal.TheVariants.{BadLine}
-use Rattle.fsrm_model.specs.Line.{next_word, named_word, number_word, deed_words, command_of, read_words}
-use Rattle.fsrm_model.specs.Limits.{latest_moment}
-use Rattle.fsrm_model.specs.Reading.{Read, ◌>>=◌, known}
-use Rattle.fsrm_model.specs.Tools.{Names, named}
-use Rattle.fsrm_model.specs.Words.{Word, is_closed, last_quote, parts_from, words_at}
+use Rattle.fsrm_model.specs.lines.Line.{next_word, named_word, number_word, deed_words, command_of, read_words}
+use Rattle.fsrm_model.specs.values.Limits.{latest_moment}
+use Rattle.fsrm_model.specs.lines.Reading.{Read, ◌>>=◌, known}
+use Rattle.fsrm_model.specs.lines.Tools.{Names, named}
+use Rattle.fsrm_model.specs.lines.Words.{Word, is_closed, last_quote, parts_from, words_at}
 use Rattle.tool_commands.specs.declared.reading.LineFault.{LineFault}
 use Rattle.tool_commands.specs.declared.reading.LineFault.TheVariants.{Refused, NoMemory}
 use Rattle.tool_commands.specs.LineFaults.{Reads, ReadsWords, at_moment}

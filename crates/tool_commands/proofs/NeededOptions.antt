@@ -9,12 +9,12 @@ use Rattle.fsrm_model.specs.declared.command.Added.{Added}
 use Rattle.fsrm_model.specs.declared.command.Deed.TheVariants.{Quota}
 use Rattle.fsrm_model.specs.declared.command.QuotaDeed.TheVariants.{Add as QuotaAdd}
 use Rattle.fsrm_model.specs.declared.command.Refusal.TheVariants.{BadLine}
-use Rattle.fsrm_model.specs.ValueForms.{Value, path_of, number_of, choice_of, text_of, notice_of}
-use Rattle.fsrm_model.specs.Line.{option_words}
-use Rattle.fsrm_model.specs.Options.{Key, path_key, limit_key, quota_type_key, status_key, source_template_key, add_threshold_key, add_notification_key, Given, its, one, each_of, options}
-use Rattle.fsrm_model.specs.Reading.{Read, ◌>>=◌, known}
-use Rattle.fsrm_model.specs.Tools.{ToolCommand, needs, quota_add, has_limit, new_thresholds}
-use Rattle.fsrm_model.specs.Words.{Word}
+use Rattle.fsrm_model.specs.lines.ValueForms.{Value, path_of, number_of, choice_of, text_of, notice_of}
+use Rattle.fsrm_model.specs.lines.Line.{option_words}
+use Rattle.fsrm_model.specs.lines.Options.{Key, path_key, limit_key, quota_type_key, status_key, source_template_key, add_threshold_key, add_notification_key, Given, its, one, each_of, options}
+use Rattle.fsrm_model.specs.lines.Reading.{Read, ◌>>=◌, known}
+use Rattle.fsrm_model.specs.lines.Tools.{ToolCommand, needs, quota_add, has_limit, new_thresholds}
+use Rattle.fsrm_model.specs.lines.Words.{Word}
 use Rattle.tool_commands.specs.declared.reading.LineFault.{LineFault}
 use Rattle.tool_commands.specs.declared.reading.LineFault.TheVariants.{Refused}
 use Rattle.tool_commands.specs.LineFaults.{Reads}

@@ -14,8 +14,8 @@ use Rattle.std.proofs.lemmas.Str.{digit_value_digit}
 use Rattle.std.proofs.lemmas.Str.Parse.{digits_value_short}
 use Rattle.fsrm_base.proofs.TestLaws.{and_false, both, both_true, eq_is, is_false, le_is, le_test, lt_is, lt_test, not_le, or_false}
 use Rattle.fsrm_model.specs.declared.command.Refusal.TheVariants.{BadLine, OutOfRange}
-use Rattle.fsrm_model.specs.Reading.{guarded, is_number, number_from}
-use Rattle.fsrm_model.specs.Words.{is_blank, is_quote, without_quotes}
+use Rattle.fsrm_model.specs.lines.Reading.{guarded, is_number, number_from}
+use Rattle.fsrm_model.specs.lines.Words.{is_blank, is_quote, without_quotes}
 use Rattle.tool_commands.specs.Lengths.{is_plain, IsPlainWord, word_length}
 use Rattle.tool_commands.specs.Numerals.{greatest_number, BeginsWithDigits, ReadsDigits, ReadsNumber}
 use Rattle.tool_commands.proofs.LimitWords.{own}

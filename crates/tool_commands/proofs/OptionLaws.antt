@@ -7,10 +7,10 @@ use Rattle.std.specs.Str.{str_eq_ignore_ascii_case}
 use Rattle.std.proofs.lemmas.List.{length-append}
 use Rattle.std.proofs.lemmas.List.Elements.{filter_map-append}
 use Rattle.fsrm_model.specs.declared.command.Refusal.TheVariants.{BadLine, OutOfRange}
-use Rattle.fsrm_model.specs.ValueForms.{ValueForm, Value, value_from}
-use Rattle.fsrm_model.specs.Options.{Key, Given, once, repeated, at_most, is_same, are_apart, its, each_of, times_in, key_named, word_key, is_colon, may_repeat, is_full, with_option, options}
-use Rattle.fsrm_model.specs.Reading.{Read, ◌>>=◌, guarded, known}
-use Rattle.fsrm_model.specs.Words.{Word}
+use Rattle.fsrm_model.specs.lines.ValueForms.{ValueForm, Value, value_from}
+use Rattle.fsrm_model.specs.lines.Options.{Key, Given, once, repeated, at_most, is_same, are_apart, its, each_of, times_in, key_named, word_key, is_colon, may_repeat, is_full, with_option, options}
+use Rattle.fsrm_model.specs.lines.Reading.{Read, ◌>>=◌, guarded, known}
+use Rattle.fsrm_model.specs.lines.Words.{Word}
 use Rattle.fsrm_base.proofs.TestLaws.{both, both_true, is_false, is_inner, nor, or_later}
 use Rattle.fsrm_model.proofs.lines.OptionLaws.{is_itself, same_is}
 use Rattle.fsrm_model.proofs.lines.ReadLaws.{both_ok, guarded_ok, guarded_then}

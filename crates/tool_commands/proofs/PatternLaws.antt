@@ -6,10 +6,10 @@ use Rattle.std.proofs.lemmas.Bool.Decides.{nat_tests}
 use Rattle.std.proofs.lemmas.List.Splits.{length-slice_split}
 use Rattle.fsrm_base.proofs.TestLaws.{clash, eq_same, suc_apart}
 use Rattle.fsrm_model.specs.declared.command.Refusal.TheVariants.{InvalidName, OutOfRange}
-use Rattle.fsrm_model.specs.GroupWords.{is_bar, patterns_from, non_members_from}
-use Rattle.fsrm_model.specs.Limits.{most_patterns}
-use Rattle.fsrm_model.specs.Patterns.{is_pattern}
-use Rattle.fsrm_model.specs.Reading.{◌>>=◌, guarded}
+use Rattle.fsrm_model.specs.lines.GroupWords.{is_bar, patterns_from, non_members_from}
+use Rattle.fsrm_model.specs.values.Limits.{most_patterns}
+use Rattle.fsrm_model.specs.values.Patterns.{is_pattern}
+use Rattle.fsrm_model.specs.lines.Reading.{◌>>=◌, guarded}
 use Rattle.memchr.specs.Find.{is_byte, places}
 use Rattle.memchr.proofs.lemmas.CallerLemmas.{length-places}
 

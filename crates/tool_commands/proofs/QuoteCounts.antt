@@ -5,7 +5,7 @@ use Rattle.std.specs.List.{list_any, suffix_len}
 use Rattle.std.proofs.lemmas.Bool.Decides.{nat_tests}
 use Rattle.std.proofs.lemmas.List.Folds.{list_any_at}
 use Rattle.std.proofs.lemmas.List.Sums.{suffix_len_is}
-use Rattle.fsrm_model.specs.Words.{is_quote, is_closed, last_quote}
+use Rattle.fsrm_model.specs.lines.Words.{is_quote, is_closed, last_quote}
 use Rattle.memchr.specs.Find.{IsLastByte, is_byte, places}
 use Rattle.memchr.proofs.lemmas.CallerLemmas.{length-places}
 use Rattle.memchr.proofs.lemmas.PlaceLemmas.{places_between-none}

@@ -7,7 +7,7 @@ use Rattle.std.proofs.lemmas.Bool.{eqb-true}
 use Rattle.std.specs.Prelude.{not}
 use Rattle.std.specs.List.{prefix_len}
 use Rattle.fsrm_base.proofs.TestLaws.{is_false, neither}
-use Rattle.fsrm_model.specs.Words.{is_blank, is_quote, without_quotes}
+use Rattle.fsrm_model.specs.lines.Words.{is_blank, is_quote, without_quotes}
 use Rattle.memchr.specs.Find.{IsFirstByte, is_byte}
 use Rattle.tool_commands.specs.Lengths.{is_plain, quoted_length}
 use Rattle.tool_commands.proofs.Marks.{first_mark}

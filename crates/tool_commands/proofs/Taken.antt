@@ -3,9 +3,9 @@ use Rattle.std.proofs.Common.{◌≡◌, ℕ, ◌+◌, true, false, List, ◌∷
 use Rattle.std.specs.Prelude.{◌&&◌, not, nat_lt, nat_le, Option, Some, None, Result, Ok, Err}
 use Rattle.std.specs.Char.{is_ascii_digit}
 use Rattle.fsrm_model.specs.declared.command.Refusal.TheVariants.{BadLine, OutOfRange}
-use Rattle.fsrm_model.specs.Line.{number_word, path_word}
-use Rattle.fsrm_model.specs.Reading.{Read, ◌>>=◌, guarded, number_from, path_from}
-use Rattle.fsrm_model.specs.Words.{Word as LineWord, words_at, parts_from}
+use Rattle.fsrm_model.specs.lines.Line.{number_word, path_word}
+use Rattle.fsrm_model.specs.lines.Reading.{Read, ◌>>=◌, guarded, number_from, path_from}
+use Rattle.fsrm_model.specs.lines.Words.{Word as LineWord, words_at, parts_from}
 use Rattle.tool_commands.specs.declared.reading.LineFault.{LineFault}
 use Rattle.tool_commands.specs.declared.reading.LineFault.TheVariants.{Refused, NoMemory}
 use Rattle.tool_commands.specs.declared.words.Word.{Word}

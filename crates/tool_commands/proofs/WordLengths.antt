@@ -5,7 +5,7 @@ use Rattle.std.proofs.lemmas.List.Sums.{prefix_len-le-length}
 use Rattle.std.proofs.Math.Seq.{drop-cons}
 use Rattle.std.specs.Prelude.{not, ◌&&◌, ◌||◌}
 use Rattle.std.specs.List.{prefix_len}
-use Rattle.fsrm_model.specs.Words.{is_blank, is_quote}
+use Rattle.fsrm_model.specs.lines.Words.{is_blank, is_quote}
 use Rattle.tool_commands.specs.Lengths.{is_plain, word_length, quoted_length}
 use Rattle.fsrm_base.proofs.TestLaws.{and_false}
 

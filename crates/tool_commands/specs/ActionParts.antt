@@ -4,9 +4,9 @@ use Rattle.std.specs.List.{after_first, before_first, list_any}
 use Rattle.fsrm_model.specs.declared.command.Added.{Added}
 use Rattle.fsrm_model.specs.declared.command.Refusal.TheVariants.{BadLine, InvalidName}
 use Rattle.fsrm_model.specs.declared.row.Action.{Action}
-use Rattle.fsrm_model.specs.ActionWords.{is_comma, kind_named, minutes_from, percent_from}
-use Rattle.fsrm_model.specs.Reading.{Read, ◌>>=◌, guarded, known}
-use Rattle.fsrm_model.specs.Thresholds.{is_action_text}
+use Rattle.fsrm_model.specs.texts.ActionWords.{is_comma, kind_named, minutes_from, percent_from}
+use Rattle.fsrm_model.specs.lines.Reading.{Read, ◌>>=◌, guarded, known}
+use Rattle.fsrm_model.specs.objects.Thresholds.{is_action_text}
 
 -- what stands before the first comma of a text that has one, and what stands after it
 pub record IsParted (text front rest : List ℕ) : Type 0 where

@@ -8,8 +8,8 @@ use Rattle.std.proofs.lemmas.List.{append-nil}
 use Rattle.std.proofs.lemmas.List.Folds.{list_any-append}
 use Rattle.std.proofs.lemmas.List.Elements.{filter_map-append}
 use Rattle.std.proofs.lemmas.List.Sums.{sum_by-append, sum_by-cons}
-use Rattle.fsrm_model.specs.ValueForms.{Value}
-use Rattle.fsrm_model.specs.Options.{Key, Given, is_same, is_of, its, first_in, one, each_of, times_in}
+use Rattle.fsrm_model.specs.lines.ValueForms.{Value}
+use Rattle.fsrm_model.specs.lines.Options.{Key, Given, is_same, is_of, its, first_in, one, each_of, times_in}
 use Rattle.fsrm_base.proofs.TestLaws.{neither}
 use Rattle.tool_commands.specs.OptionWords.{HoldsOnce, HoldsEach, in_keys}
 

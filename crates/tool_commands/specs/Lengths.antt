@@ -1,7 +1,7 @@
 -- How far the word reaches that a text begins with.
 use Rattle.std.specs.Prelude.{◌≡◌, ℕ, ◌+◌, ◌<◌, ◌==◌, suc, ◌&&◌, ◌||◌, not, Bool, true, List, [], ◌∷◌, length, slice_index, min, if◌then◌else◌}
 use Rattle.std.specs.List.{prefix_len}
-use Rattle.fsrm_model.specs.Words.{is_blank, is_quote}
+use Rattle.fsrm_model.specs.lines.Words.{is_blank, is_quote}
 
 -- a byte that neither parts words nor quotes
 abbrev pub is_plain : ℕ → Bool

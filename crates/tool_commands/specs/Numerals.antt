@@ -3,7 +3,7 @@ use Rattle.std.specs.Prelude.{◌≡◌, ℕ, ◌≤◌, true, false, List, leng
 use Rattle.std.specs.Char.{is_ascii_digit}
 use Rattle.std.specs.List.{list_all}
 use Rattle.std.specs.Str.Parse.{digits_value}
-use Rattle.fsrm_model.specs.Reading.{is_number}
+use Rattle.fsrm_model.specs.lines.Reading.{is_number}
 
 -- the greatest number of 64 bits, for which all greater ones stand
 abbrev pub greatest_number : ℕ

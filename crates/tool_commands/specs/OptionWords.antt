@@ -2,10 +2,10 @@
 use Rattle.std.specs.Prelude.{◌≡◌, ℕ, ◌==◌, Bool, true, false, List, length, Option, Some, None, is_none, Result, Ok, Err}
 use Rattle.std.specs.List.{list_any, after_first}
 use Rattle.fsrm_model.specs.declared.command.Refusal.TheVariants.{BadLine}
-use Rattle.fsrm_model.specs.ValueForms.{Value}
-use Rattle.fsrm_model.specs.Options.{Key, Given, is_same, one, each_of, times_in, key_named, word_key, is_colon, with_option}
-use Rattle.fsrm_model.specs.Reading.{Read, ◌>>=◌, known}
-use Rattle.fsrm_model.specs.Words.{Word as LineWord}
+use Rattle.fsrm_model.specs.lines.ValueForms.{Value}
+use Rattle.fsrm_model.specs.lines.Options.{Key, Given, is_same, one, each_of, times_in, key_named, word_key, is_colon, with_option}
+use Rattle.fsrm_model.specs.lines.Reading.{Read, ◌>>=◌, known}
+use Rattle.fsrm_model.specs.lines.Words.{Word as LineWord}
 use Rattle.tool_commands.specs.declared.reading.LineFault.{LineFault}
 use Rattle.tool_commands.specs.declared.reading.LineFault.TheVariants.{Refused}
 use Rattle.tool_commands.specs.LineFaults.{Reads}

@@ -1,9 +1,9 @@
 -- The option of commands that take a path and nothing else.
 use Rattle.std.specs.Prelude.{◌≡◌, ℕ, List, Result, Ok, Err}
 use Rattle.fsrm_model.specs.declared.command.Deed.{Deed}
-use Rattle.fsrm_model.specs.Line.{option_words}
-use Rattle.fsrm_model.specs.Tools.{of_path}
-use Rattle.fsrm_model.specs.Words.{Word}
+use Rattle.fsrm_model.specs.lines.Line.{option_words}
+use Rattle.fsrm_model.specs.lines.Tools.{of_path}
+use Rattle.fsrm_model.specs.lines.Words.{Word}
 use Rattle.tool_commands.specs.declared.reading.LineFault.{LineFault}
 use Rattle.tool_commands.specs.LineFaults.{Reads}
 

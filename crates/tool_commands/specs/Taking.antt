@@ -1,11 +1,11 @@
 -- What taking words from the front of a line's words comes to.
 use Rattle.std.specs.Prelude.{◌≡◌, ℕ, ◌+◌, false, List, [], ◌∷◌, length, take, Result, Ok, Err, Option, Some, None}
 use Rattle.std.specs.Cow.{cow_str_bytes}
-use Rattle.fsrm_model.specs.Line.{next_word}
+use Rattle.fsrm_model.specs.lines.Line.{next_word}
 use Rattle.fsrm_model.specs.declared.command.Refusal.TheVariants.{BadLine}
-use Rattle.fsrm_model.specs.Reading.{Read, ◌>>=◌, known}
-use Rattle.fsrm_model.specs.Tools.{Names, named}
-use Rattle.fsrm_model.specs.Words.{Word as LineWord, words_at, parts_from}
+use Rattle.fsrm_model.specs.lines.Reading.{Read, ◌>>=◌, known}
+use Rattle.fsrm_model.specs.lines.Tools.{Names, named}
+use Rattle.fsrm_model.specs.lines.Words.{Word as LineWord, words_at, parts_from}
 use Rattle.tool_commands.specs.declared.reading.LineFault.{LineFault}
 use Rattle.tool_commands.specs.declared.reading.LineFault.TheVariants.{NoMemory}
 use Rattle.tool_commands.specs.declared.words.LentWord.{LentWord}

@@ -2,11 +2,11 @@
 
 ghost use Rattle.std.specs.Prelude.{◌≡◌, ◌≤◌, false, IfOk, MatchOption};
 ghost use Rattle.std.specs.List.{list_all, list_any};
-ghost use Rattle.fsrm_model.specs.ActionWords.{action_from, is_comma, kind_named, minutes_from, notice_from, percent_from};
+ghost use Rattle.fsrm_model.specs.texts.ActionWords.{action_from, is_comma, kind_named, minutes_from, notice_from, percent_from};
 ghost use Rattle.fsrm_model.specs.declared.command.Refusal.TheVariants.{InvalidName};
-ghost use Rattle.fsrm_model.specs.Limits.{most_minutes};
-ghost use Rattle.fsrm_model.specs.Reading.{guarded, number_from};
-ghost use Rattle.fsrm_model.specs.Thresholds.{is_action_text, is_printing};
+ghost use Rattle.fsrm_model.specs.values.Limits.{most_minutes};
+ghost use Rattle.fsrm_model.specs.lines.Reading.{guarded, number_from};
+ghost use Rattle.fsrm_model.specs.objects.Thresholds.{is_action_text, is_printing};
 ghost use Rattle.tool_commands.specs.ActionParts.{IsParted, AreParts, has_action_commas, action_of, added_from};
 ghost use Rattle.tool_commands.specs.LineFaults.{Reads};
 

@@ -2,8 +2,8 @@
 
 ghost use Rattle.std.specs.Prelude.{◌≡◌};
 ghost use Rattle.fsrm_model.specs.declared.command.Deed.TheVariants.{Autoquota};
-ghost use Rattle.fsrm_model.specs.Line.{option_words, named_word};
-ghost use Rattle.fsrm_model.specs.Tools.{auto_add, auto_commands};
+ghost use Rattle.fsrm_model.specs.lines.Line.{option_words, named_word};
+ghost use Rattle.fsrm_model.specs.lines.Tools.{auto_add, auto_commands};
 ghost use Rattle.tool_commands.specs.LineFaults.{ReadsIn};
 ghost use Rattle.tool_commands.specs.Taking.{left, end};
 

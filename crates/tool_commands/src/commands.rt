@@ -1,8 +1,8 @@
 //! The commands, each read from the words after its name.
 
 ghost use Rattle.std.specs.Prelude.{◌≡◌, Ok, Some};
-ghost use Rattle.fsrm_model.specs.Line.{mkdir_words, create_words, resize_words, touch_words, move_words, remove_words, usage_words, step_words, readers, deed_words, tool_words};
-ghost use Rattle.fsrm_model.specs.Tools.{dirquota, filescrn, tools};
+ghost use Rattle.fsrm_model.specs.lines.Line.{mkdir_words, create_words, resize_words, touch_words, move_words, remove_words, usage_words, step_words, readers, deed_words, tool_words};
+ghost use Rattle.fsrm_model.specs.lines.Tools.{dirquota, filescrn, tools};
 ghost use Rattle.tool_commands.specs.LineFaults.{ReadsWords, at_moment};
 ghost use Rattle.tool_commands.specs.Taking.{left, end, lent_word, named_by};
 

@@ -2,8 +2,8 @@
 
 ghost use Rattle.std.specs.Prelude.{◌≡◌};
 ghost use Rattle.fsrm_model.specs.declared.command.Deed.TheVariants.{Filegroup};
-ghost use Rattle.fsrm_model.specs.Line.{option_words, named_word};
-ghost use Rattle.fsrm_model.specs.Tools.{group_add, group_commands, group_delete, group_modify};
+ghost use Rattle.fsrm_model.specs.lines.Line.{option_words, named_word};
+ghost use Rattle.fsrm_model.specs.lines.Tools.{group_add, group_commands, group_delete, group_modify};
 ghost use Rattle.tool_commands.specs.LineFaults.{ReadsIn};
 ghost use Rattle.tool_commands.specs.Taking.{left, end};
 

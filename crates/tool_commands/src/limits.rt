@@ -5,8 +5,8 @@ ghost use Rattle.std.specs.Char.{is_ascii_digit};
 ghost use Rattle.std.specs.List.{list_all, prefix_len};
 ghost use Rattle.std.specs.Str.Parse.{digits_value};
 ghost use Rattle.fsrm_model.specs.declared.command.Refusal.TheVariants.{InvalidLimit};
-ghost use Rattle.fsrm_model.specs.Quota.{is_limit};
-ghost use Rattle.fsrm_model.specs.Reading.{unit_bytes, guarded, limit_from};
+ghost use Rattle.fsrm_model.specs.objects.Quota.{is_limit};
+ghost use Rattle.fsrm_model.specs.lines.Reading.{unit_bytes, guarded, limit_from};
 ghost use Rattle.tool_commands.specs.LineFaults.{Reads};
 
 use crate::reading::LineFault;

@@ -1,8 +1,8 @@
 //! The options of the tools' commands: words of the form /Name:value, in any order.
 
 ghost use Rattle.std.specs.Prelude.{◌≡◌, ◌≤◌, ◌∷◌, ◌++◌, true, false, List as Sequence, [], Option as Maybe};
-ghost use Rattle.fsrm_model.specs.ValueForms.{ValueForm, Value, value_from};
-ghost use Rattle.fsrm_model.specs.Options.{Key, Given, once, repeated, at_most, are_apart, options as options_of};
+ghost use Rattle.fsrm_model.specs.lines.ValueForms.{ValueForm, Value, value_from};
+ghost use Rattle.fsrm_model.specs.lines.Options.{Key, Given, once, repeated, at_most, are_apart, options as options_of};
 ghost use Rattle.tool_commands.specs.OptionWords.{option_word, ReadsValue, HoldsOnce, HoldsEach, Adds, AddsWord, ReadsGiven, IsRequired, in_keys};
 ghost use Rattle.tool_commands.specs.Taking.{left, end, line_word};
 

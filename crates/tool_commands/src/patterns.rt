@@ -2,9 +2,9 @@
 
 ghost use Rattle.std.specs.Prelude.{◌≡◌, nat_le, length, IfOk};
 ghost use Rattle.std.specs.List.{list_all, slice_split};
-ghost use Rattle.fsrm_model.specs.GroupWords.{is_bar, non_members_from, patterns_from};
-ghost use Rattle.fsrm_model.specs.Limits.{most_patterns};
-ghost use Rattle.fsrm_model.specs.Patterns.{is_pattern};
+ghost use Rattle.fsrm_model.specs.lines.GroupWords.{is_bar, non_members_from, patterns_from};
+ghost use Rattle.fsrm_model.specs.values.Limits.{most_patterns};
+ghost use Rattle.fsrm_model.specs.values.Patterns.{is_pattern};
 ghost use Rattle.tool_commands.specs.LineFaults.{Reads};
 
 use crate::reading::LineFault;

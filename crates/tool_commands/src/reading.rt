@@ -4,9 +4,9 @@ ghost use Rattle.std.specs.Prelude.{◌≡◌, ◌≤◌, ◌↔◌, IsTrue, IfO
 ghost use Rattle.std.specs.List.{list_any};
 ghost use Rattle.fsrm_model.specs.declared.command.Command.{Command};
 ghost use Rattle.fsrm_model.specs.declared.command.Refusal.TheVariants.{BadLine};
-ghost use Rattle.fsrm_model.specs.Line.{read_line, read_words, is_skipped};
-ghost use Rattle.fsrm_model.specs.Valued.{is_command};
-ghost use Rattle.fsrm_model.specs.Words.{is_quote, is_closed, last_quote};
+ghost use Rattle.fsrm_model.specs.lines.Line.{read_line, read_words, is_skipped};
+ghost use Rattle.fsrm_model.specs.store.Valued.{is_command};
+ghost use Rattle.fsrm_model.specs.lines.Words.{is_quote, is_closed, last_quote};
 ghost use Rattle.tool_commands.specs.LineFaults.{IsFault, ReadsWords};
 ghost use Rattle.tool_commands.specs.declared.reading.LineFault.TheVariants.{Refused, NoMemory as Memory};
 

@@ -2,8 +2,8 @@
 
 ghost use Rattle.std.specs.Prelude.{◌≡◌};
 ghost use Rattle.fsrm_model.specs.declared.command.Deed.TheVariants.{Screen};
-ghost use Rattle.fsrm_model.specs.Line.{option_words, named_word};
-ghost use Rattle.fsrm_model.specs.Tools.{screen_add, screen_commands, screen_modify};
+ghost use Rattle.fsrm_model.specs.lines.Line.{option_words, named_word};
+ghost use Rattle.fsrm_model.specs.lines.Tools.{screen_add, screen_commands, screen_modify};
 ghost use Rattle.tool_commands.specs.LineFaults.{ReadsIn};
 ghost use Rattle.tool_commands.specs.Taking.{left, end};
 

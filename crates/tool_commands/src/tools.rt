@@ -1,7 +1,7 @@
 //! The tools `dirquota` and `filescrn`, each read from the words after its name.
 
-ghost use Rattle.fsrm_model.specs.Line.{tool_words};
-ghost use Rattle.fsrm_model.specs.Tools.{dirquota, filescrn};
+ghost use Rattle.fsrm_model.specs.lines.Line.{tool_words};
+ghost use Rattle.fsrm_model.specs.lines.Tools.{dirquota, filescrn};
 ghost use Rattle.tool_commands.specs.LineFaults.{Reads};
 ghost use Rattle.tool_commands.specs.Taking.{left, end};
 

@@ -4,7 +4,7 @@ ghost use Rattle.std.specs.Prelude.{◌≡◌, ◌+◌, ◌≤◌, ◌==◌, ◌
 ghost use Rattle.std.specs.List.{prefix_len};
 ghost use Rattle.std.specs.Str.{IsCharBoundary};
 ghost use Rattle.std.specs.String.{string_bytes};
-ghost use Rattle.fsrm_model.specs.Words.{is_blank, parts_from, words_at, without_quotes};
+ghost use Rattle.fsrm_model.specs.lines.Words.{is_blank, parts_from, words_at, without_quotes};
 ghost use Rattle.tool_commands.specs.Lengths.{is_plain, IsPlainWord, word_length, quoted_length};
 
 use crate::reading::LineFault;

@@ -1,7 +1,7 @@
 //! An action that ran: its act is handed out, told and written, and the log has it.
 
 ghost use Rattle.std.specs.Prelude.{◌≡◌, []};
-ghost use Rattle.fsrm_model.specs.Acts.{IsAct};
+ghost use Rattle.fsrm_model.specs.objects.Acts.{IsAct};
 
 use crate::engines::{does, passes};
 use fsrm_engine::Engine;

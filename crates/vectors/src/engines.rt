@@ -3,7 +3,7 @@
 //! the audit log (`audits`).
 
 ghost use Rattle.std.specs.Prelude.{◌≡◌, [], true};
-ghost use Rattle.fsrm_model.specs.Valued.{is_command, is_op};
+ghost use Rattle.fsrm_model.specs.store.Valued.{is_command, is_op};
 
 use crate::acts::warns;
 use crate::audits::notes;

@@ -3,10 +3,10 @@
 ghost use Rattle.std.specs.Prelude.{◌≡◌, None, Some, IfOk, true, nat_lt};
 ghost use Rattle.fsrm_base.specs.Keyed.{has_row};
 ghost use Rattle.fsrm_model.specs.declared.row.TemplateRow.{TemplateRow};
-ghost use Rattle.fsrm_model.specs.AutoApply.{is_auto};
-ghost use Rattle.fsrm_model.specs.Limits.{most_templates};
-ghost use Rattle.fsrm_model.specs.Quota.{is_limit};
-ghost use Rattle.fsrm_model.specs.Templates.{is_template, template_number, template_of};
+ghost use Rattle.fsrm_model.specs.objects.AutoApply.{is_auto};
+ghost use Rattle.fsrm_model.specs.values.Limits.{most_templates};
+ghost use Rattle.fsrm_model.specs.objects.Quota.{is_limit};
+ghost use Rattle.fsrm_model.specs.objects.Templates.{is_template, template_number, template_of};
 ghost use Rattle.vectors.specs.Kept.{IsPlain};
 
 use crate::values::{one, text};

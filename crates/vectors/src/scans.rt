@@ -1,8 +1,8 @@
 //! What a scan has yet to visit, which the program doesn't ask, and a queue of scans. Scans are shown by scripts.
 
 ghost use Rattle.std.specs.Prelude.{◌≡◌, true};
-ghost use Rattle.fsrm_model.specs.Valid.{IsVolume};
-ghost use Rattle.fsrm_model.specs.Tree.{is_folder as is_folder_of};
+ghost use Rattle.fsrm_model.specs.store.Valid.{IsVolume};
+ghost use Rattle.fsrm_model.specs.nodes.Tree.{is_folder as is_folder_of};
 
 use crate::trees::is_folder;
 use crate::values::SMALL;

@@ -2,9 +2,9 @@
 //! program doesn't make: whole creations and moves, and copies of its rows.
 
 ghost use Rattle.std.specs.Prelude.{◌≡◌, ◌==◌, true, false};
-ghost use Rattle.fsrm_model.specs.Capacities.{is_capacity};
-ghost use Rattle.fsrm_model.specs.Name.{is_name};
-ghost use Rattle.fsrm_model.specs.Tree.{is_folder as is_folder_of};
+ghost use Rattle.fsrm_model.specs.store.Capacities.{is_capacity};
+ghost use Rattle.fsrm_model.specs.values.Name.{is_name};
+ghost use Rattle.fsrm_model.specs.nodes.Tree.{is_folder as is_folder_of};
 
 use crate::values::{SMALL, TINY, folder, one};
 use fsrm_model::{Capacity, Ledger, List, NodeRow, Steps, Weightless};

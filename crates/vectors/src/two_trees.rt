@@ -2,8 +2,8 @@
 
 ghost use Rattle.std.specs.Prelude.{◌≡◌, ◌≤◌, true, false};
 ghost use Rattle.fsrm_base.specs.Keyed.{has_row};
-ghost use Rattle.fsrm_model.specs.Limits.{latest_moment};
-ghost use Rattle.fsrm_model.specs.Tree.{number as key, is_folder as is_folder_of};
+ghost use Rattle.fsrm_model.specs.values.Limits.{latest_moment};
+ghost use Rattle.fsrm_model.specs.nodes.Tree.{number as key, is_folder as is_folder_of};
 
 use crate::chances::{below, chances};
 use crate::plain_tree::{Change, PlainTree};

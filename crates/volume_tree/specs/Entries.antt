@@ -2,7 +2,7 @@
 use Rattle.std.specs.Prelude.{◌≡◌, ℕ, ◌+◌, ◌-◌, ◌*◌, ◌^◌, ◌<◌, ◌≤◌, List, All, Contains, Some, length, map, slice_get}
 use Rattle.std.specs.List.{slice_index_or}
 use Rattle.fsrm_model.specs.declared.row.NodeRow.{NodeRow}
-use Rattle.fsrm_model.specs.Tree.{node_of}
+use Rattle.fsrm_model.specs.nodes.Tree.{node_of}
 use Rattle.name_rules.specs.Prefix.{prefix}
 use Rattle.block_list.specs.Runs.{entries_of}
 use Rattle.volume_tree.specs.declared.entries.Entry.{Entry}

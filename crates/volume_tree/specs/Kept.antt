@@ -5,15 +5,15 @@ use Rattle.std.specs.List.Sorted.{IsPermutation}
 use Rattle.std.specs.Option.{option_map_or}
 use Rattle.fsrm_model.specs.declared.row.Capacity.{Capacity}
 use Rattle.fsrm_model.specs.declared.row.NodeRow.{NodeRow}
-use Rattle.fsrm_model.specs.Capacities.{is_capacity}
+use Rattle.fsrm_model.specs.store.Capacities.{is_capacity}
 use Rattle.block_list.specs.declared.place.Place.{Place}
 use Rattle.block_list.specs.Places.{index_of}
 use Rattle.block_list.specs.Runs.{entries_of, run_at}
-use Rattle.fsrm_model.specs.Name.{name_before, same_name}
+use Rattle.fsrm_model.specs.values.Name.{name_before, same_name}
 use Rattle.fsrm_base.specs.Keyed.{has_row}
 use Rattle.fsrm_base.specs.Numbers.{is_in, is_set}
-use Rattle.fsrm_model.specs.Tree.{number, node_of, children_in_order, name_bytes}
-use Rattle.fsrm_model.specs.Valid.{IsVolume}
+use Rattle.fsrm_model.specs.nodes.Tree.{number, node_of, children_in_order, name_bytes}
+use Rattle.fsrm_model.specs.store.Valid.{IsVolume}
 pub use Rattle.node_table.specs.Slots.{rows_of, IsSlot, AreSlots}
 use Rattle.node_table.specs.Table.{Table}
 use Rattle.number_set.specs.Numbers.{Numbers}

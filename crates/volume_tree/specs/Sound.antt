@@ -3,10 +3,10 @@ use Rattle.std.specs.Prelude.{◌≡◌, ℕ, suc, ◌==◌, ◌&&◌, nat_lt, n
 use Rattle.std.specs.List.{list_all, list_any}
 use Rattle.fsrm_model.specs.declared.row.NodeRow.{NodeRow}
 use Rattle.fsrm_base.specs.Keyed.{has_row}
-use Rattle.fsrm_model.specs.Name.{same_name}
-use Rattle.fsrm_model.specs.Tree.{number, node_of, is_folder, is_under, chain_in}
-use Rattle.fsrm_model.specs.Limits.{longest_file}
-use Rattle.fsrm_model.specs.Valid.{is_moment, is_root_node, is_own}
+use Rattle.fsrm_model.specs.values.Name.{same_name}
+use Rattle.fsrm_model.specs.nodes.Tree.{number, node_of, is_folder, is_under, chain_in}
+use Rattle.fsrm_model.specs.values.Limits.{longest_file}
+use Rattle.fsrm_model.specs.store.Valid.{is_moment, is_root_node, is_own}
 
 -- numbers ascend from one on, below a bound
 abbrev pub are_from : ℕ → ℕ → List NodeRow → Bool

@@ -4,9 +4,9 @@ use Rattle.std.specs.Option.{option_map_or}
 use Rattle.fsrm_base.specs.Causes.{◌when◌, first}
 use Rattle.fsrm_model.specs.declared.row.Capacity.{Capacity}
 use Rattle.fsrm_model.specs.declared.row.NodeRow.{NodeRow}
-use Rattle.fsrm_model.specs.FileOps.{resized, touched, placed}
+use Rattle.fsrm_model.specs.nodes.FileOps.{resized, touched, placed}
 use Rattle.fsrm_base.specs.Keyed.{with_row, with_change, without_row}
-use Rattle.fsrm_model.specs.Tree.{number, node_of, name_of, is_under, children, child_number, children_in_order, name_bytes}
+use Rattle.fsrm_model.specs.nodes.Tree.{number, node_of, name_of, is_under, children, child_number, children_in_order, name_bytes}
 use Rattle.volume_tree.specs.declared.answer.TreeFault.{TreeFault}
 use Rattle.volume_tree.specs.declared.answer.TreeFault.TheVariants.{AlreadyExists, InvalidMove, NotEmpty, VolumeFull, NamesFull}
 pub use Rattle.node_table.specs.declared.view.NodeView.{NodeView}

@@ -2,7 +2,7 @@
 use Rattle.std.specs.Prelude.{◌≡◌, ℕ, Bool, true, List, Option, if◌then◌else◌}
 use Rattle.fsrm_base.specs.Keyed.{has_row}
 use Rattle.fsrm_model.specs.declared.row.NodeRow.{NodeRow}
-use Rattle.fsrm_model.specs.Tree.{above, chain, number}
+use Rattle.fsrm_model.specs.nodes.Tree.{above, chain, number}
 use Rattle.fsrm_model.proofs.nodes.ChainLaws.{IsTree}
 use Rattle.volume_tree.specs.Kept.{AreSlots, rows_of}
 

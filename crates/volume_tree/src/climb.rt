@@ -3,7 +3,7 @@
 ghost use Rattle.std.specs.Prelude.{◌≡◌, ◌+◌, ◌≤◌, true, length};
 ghost use Rattle.fsrm_model.proofs.nodes.ChainLaws.{IsTree};
 ghost use Rattle.fsrm_base.specs.Keyed.{has_row};
-ghost use Rattle.fsrm_model.specs.Tree.{number as key, chain, is_under};
+ghost use Rattle.fsrm_model.specs.nodes.Tree.{number as key, chain, is_under};
 ghost use Rattle.volume_tree.specs.Kept.{AreSlots, rows_of};
 ghost use Rattle.volume_tree.specs.Looks.{passed};
 

@@ -1,11 +1,11 @@
 //! New nodes, in two halves: what can refuse one, and then the creation, which can't fail.
 
 ghost use Rattle.std.specs.Prelude.{◌≡◌, ◌+◌, ◌≤◌, if◌then◌else◌, IfOk, IfErr, OnOk, OnErr, true, false, length, None, Some};
-ghost use Rattle.fsrm_model.specs.FileOps.{made_node};
-ghost use Rattle.fsrm_model.specs.Limits.{longest_file, latest_moment};
-ghost use Rattle.fsrm_model.specs.Name.{is_name};
-ghost use Rattle.fsrm_model.specs.Tree.{fresh, is_folder};
-ghost use Rattle.fsrm_model.specs.Valid.{IsVolume};
+ghost use Rattle.fsrm_model.specs.nodes.FileOps.{made_node};
+ghost use Rattle.fsrm_model.specs.values.Limits.{longest_file, latest_moment};
+ghost use Rattle.fsrm_model.specs.values.Name.{is_name};
+ghost use Rattle.fsrm_model.specs.nodes.Tree.{fresh, is_folder};
+ghost use Rattle.fsrm_model.specs.store.Valid.{IsVolume};
 ghost use Rattle.node_table.specs.Views.{seen};
 ghost use Rattle.volume_tree.specs.Volume.{new_fault, with_node};
 

@@ -2,8 +2,8 @@
 
 ghost use Rattle.std.specs.Prelude.{◌≡◌, ◌+◌, ◌<◌, ◌≤◌, ◌==◌, not, IfOk, IfErr, OnOk, OnErr, true, false, length, Some, slice_get, option_map};
 ghost use Rattle.fsrm_base.specs.Keyed.{has_row};
-ghost use Rattle.fsrm_model.specs.Limits.{most_nodes};
-ghost use Rattle.fsrm_model.specs.Tree.{number as key, parent_of, name_of, child_number};
+ghost use Rattle.fsrm_model.specs.values.Limits.{most_nodes};
+ghost use Rattle.fsrm_model.specs.nodes.Tree.{number as key, parent_of, name_of, child_number};
 ghost use Rattle.block_list.specs.Places.{IsEntry, IsGap, index_of};
 ghost use Rattle.block_list.specs.Runs.{entries_of};
 ghost use Rattle.volume_tree.specs.Entries.{AreOwn};

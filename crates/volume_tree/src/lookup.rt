@@ -1,8 +1,8 @@
 //! The child of a name, which is sought first at the node that is guessed.
 
 ghost use Rattle.std.specs.Prelude.{◌≡◌, ◌+◌, ◌<◌, ◌≤◌, IfSome, OnSome, true, length};
-ghost use Rattle.fsrm_model.specs.Limits.{most_nodes};
-ghost use Rattle.fsrm_model.specs.Tree.{child_number};
+ghost use Rattle.fsrm_model.specs.values.Limits.{most_nodes};
+ghost use Rattle.fsrm_model.specs.nodes.Tree.{child_number};
 ghost use Rattle.block_list.specs.Runs.{entries_of};
 ghost use Rattle.volume_tree.specs.Entries.{AreOwn};
 ghost use Rattle.volume_tree.specs.Kept.{AreSlots, IsOrder, has_name, rows_of};

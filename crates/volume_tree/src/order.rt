@@ -2,8 +2,8 @@
 //! each folder by folded names. They are kept in runs, each at the beginning of a block.
 
 ghost use Rattle.std.specs.Prelude.{◌≡◌, ℕ, ◌+◌, ◌-◌, ◌/◌, ◌<◌, ◌≤◌, ◌==◌, if◌then◌else◌, Contains, IfOk, IfErr, IfSome, option_map, false, not, length, [], Some, None, slice_get};
-ghost use Rattle.fsrm_model.specs.Limits.{most_nodes};
-ghost use Rattle.fsrm_model.specs.Tree.{children, child_number};
+ghost use Rattle.fsrm_model.specs.values.Limits.{most_nodes};
+ghost use Rattle.fsrm_model.specs.nodes.Tree.{children, child_number};
 ghost use Rattle.block_list.specs.Places.{IsEntry, IsGap, index_of};
 ghost use Rattle.block_list.specs.Runs.{entries_of, run_at, start_of};
 ghost use Rattle.name_rules.specs.Prefix.{prefix as prefix_of};

@@ -2,7 +2,7 @@
 
 ghost use Rattle.std.specs.Prelude.{◌≡◌, ◌+◌, true, Some};
 ghost use Rattle.fsrm_base.specs.Keyed.{has_row};
-ghost use Rattle.fsrm_model.specs.Tree.{number as key, node_of};
+ghost use Rattle.fsrm_model.specs.nodes.Tree.{number as key, node_of};
 ghost use Rattle.node_table.specs.Views.{seen};
 ghost use Rattle.volume_tree.specs.Kept.{AreSlots, HasName, rows_of};
 

@@ -5,13 +5,13 @@ ghost use Rattle.std.specs.List.{IsAllAdjacentAnswer, list_all};
 ghost use Rattle.std.specs.List.Sorted.{IsPermutation, IsSortedBy};
 ghost use Rattle.std.specs.Ordering.{is_lt};
 ghost use Rattle.fsrm_base.specs.Keyed.{has_row, is_ascending};
-ghost use Rattle.fsrm_model.specs.Tree.{number as key, parent_of, is_folder, is_under, name_bytes};
-ghost use Rattle.fsrm_model.specs.Valid.{is_tree, is_moment, is_own, is_root_node};
+ghost use Rattle.fsrm_model.specs.nodes.Tree.{number as key, parent_of, is_folder, is_under, name_bytes};
+ghost use Rattle.fsrm_model.specs.store.Valid.{is_tree, is_moment, is_own, is_root_node};
 ghost use Rattle.block_list.specs.Runs.{entries_of};
 ghost use Rattle.volume_tree.specs.Entries.{AreOwn, entry_of};
 ghost use Rattle.volume_tree.specs.Kept.{AreSlots, IsFilled, IsHeld, IsOrder, inner, is_before, rows_of};
 ghost use Rattle.volume_tree.specs.Sound.{AreMarks, HasTwins, Reaches, are_from, are_sound, is_in_range, is_placed};
-ghost use Rattle.fsrm_model.specs.Capacities.{is_capacity};
+ghost use Rattle.fsrm_model.specs.store.Capacities.{is_capacity};
 
 use crate::answer::RowsFault;
 use crate::entries::{Entry, Order};

@@ -1,7 +1,7 @@
 //! Where in the order a folder's children stand.
 
 ghost use Rattle.std.specs.Prelude.{◌≡◌, ℕ, ◌+◌, ◌-◌, ◌/◌, ◌<◌, ◌≤◌, if◌then◌else◌, true, length};
-ghost use Rattle.fsrm_model.specs.Limits.{most_nodes};
+ghost use Rattle.fsrm_model.specs.values.Limits.{most_nodes};
 ghost use Rattle.block_list.specs.Places.{IsGap, index_of};
 ghost use Rattle.block_list.specs.Runs.{entries_of, start_of};
 ghost use Rattle.volume_tree.specs.Entries.{IsFirst, IsLower, IsNotLower};

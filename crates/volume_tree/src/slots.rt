@@ -1,9 +1,9 @@
 //! Nodes in slots, each in the slot of its number.
 
 ghost use Rattle.std.specs.Prelude.{◌≡◌, ◌+◌, ◌^◌, ◌<◌, ◌≤◌, IfOk, length, option_map, true, Some, [], ◌∷◌};
-ghost use Rattle.fsrm_model.specs.Fresh.{root_node};
+ghost use Rattle.fsrm_model.specs.nodes.Fresh.{root_node};
 ghost use Rattle.fsrm_base.specs.Keyed.{has_row};
-ghost use Rattle.fsrm_model.specs.Tree.{number as key, node_of, name_of, fresh};
+ghost use Rattle.fsrm_model.specs.nodes.Tree.{number as key, node_of, name_of, fresh};
 ghost use Rattle.node_table.specs.Views.{seen};
 ghost use Rattle.volume_tree.specs.Kept.{AreHoles, AreSlots, rows_of};
 

@@ -1,7 +1,7 @@
 //! Where in the order a new node is to stand, sought first where the question whether there may be one ended.
 
 ghost use Rattle.std.specs.Prelude.{◌≡◌, ◌+◌, ◌<◌, ◌≤◌, true, length};
-ghost use Rattle.fsrm_model.specs.Limits.{most_nodes};
+ghost use Rattle.fsrm_model.specs.values.Limits.{most_nodes};
 ghost use Rattle.block_list.specs.Places.{IsGap, index_of};
 ghost use Rattle.block_list.specs.Runs.{entries_of};
 ghost use Rattle.name_rules.specs.Prefix.{prefix as prefix_of};

@@ -2,7 +2,7 @@
 
 ghost use Rattle.std.specs.Prelude.{◌≡◌, ◌+◌, ◌<◌, ◌∷◌, [], IfSome, IfNone, false, length};
 ghost use Rattle.fsrm_base.specs.Numbers.{is_in};
-ghost use Rattle.fsrm_model.specs.Tree.{above, chain};
+ghost use Rattle.fsrm_model.specs.nodes.Tree.{above, chain};
 ghost use Rattle.volume_tree.specs.Kept.{rows_of};
 ghost use Rattle.volume_tree.specs.Ways.{IsWay, left};
 

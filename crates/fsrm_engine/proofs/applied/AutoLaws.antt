@@ -23,23 +23,23 @@ use Rattle.fsrm_model.specs.declared.row.NodeRow.{NodeRow}
 use Rattle.fsrm_model.specs.declared.row.QuotaRow.{QuotaRow}
 use Rattle.fsrm_model.specs.declared.row.Rows.{Rows}
 use Rattle.fsrm_model.specs.declared.row.TemplateRow.{TemplateRow}
-use Rattle.fsrm_model.specs.AutoApply.{applied, auto_folder, auto_of, excludes, queue_with, quotas_with, subfolders, with_quotas}
-use Rattle.fsrm_model.specs.AutoWork.{new_auto}
-use Rattle.fsrm_model.specs.Check.{Check, autos_full, table_full, texts_full}
-use Rattle.fsrm_model.specs.FileOps.{target}
-use Rattle.fsrm_model.specs.Name.{is_named}
-use Rattle.fsrm_model.specs.Leads.{leads_to_folder}
-use Rattle.fsrm_model.specs.Limits.{latest_moment, most_autos, most_entries, most_quotas, most_text_bytes}
-use Rattle.fsrm_model.specs.Quota.{folder_of, counts, is_limit}
-use Rattle.fsrm_model.specs.QuotaStates.{followed}
-use Rattle.fsrm_model.specs.Reached.{IsReached}
-use Rattle.fsrm_model.specs.Templates.{template_name, template_named, template_number, template_of}
-use Rattle.fsrm_model.specs.TemplateWork.{number_in}
-use Rattle.fsrm_model.specs.Text.{is_bare}
-use Rattle.fsrm_model.specs.Texts.{auto_bytes, object_texts, threshold_bytes}
-use Rattle.fsrm_model.specs.Thresholds.{are_thresholds}
-use Rattle.fsrm_model.specs.Tree.{is_folder, name_of, usage}
-use Rattle.fsrm_model.specs.Valid.{is_moment}
+use Rattle.fsrm_model.specs.objects.AutoApply.{applied, auto_folder, auto_of, excludes, queue_with, quotas_with, subfolders, with_quotas}
+use Rattle.fsrm_model.specs.commands.AutoWork.{new_auto}
+use Rattle.fsrm_model.specs.commands.Check.{Check, autos_full, table_full, texts_full}
+use Rattle.fsrm_model.specs.nodes.FileOps.{target}
+use Rattle.fsrm_model.specs.values.Name.{is_named}
+use Rattle.fsrm_model.specs.nodes.Leads.{leads_to_folder}
+use Rattle.fsrm_model.specs.values.Limits.{latest_moment, most_autos, most_entries, most_quotas, most_text_bytes}
+use Rattle.fsrm_model.specs.objects.Quota.{folder_of, counts, is_limit}
+use Rattle.fsrm_model.specs.objects.QuotaStates.{followed}
+use Rattle.fsrm_model.specs.objects.Reached.{IsReached}
+use Rattle.fsrm_model.specs.objects.Templates.{template_name, template_named, template_number, template_of}
+use Rattle.fsrm_model.specs.commands.TemplateWork.{number_in}
+use Rattle.fsrm_model.specs.texts.Text.{is_bare}
+use Rattle.fsrm_model.specs.values.Texts.{auto_bytes, object_texts, threshold_bytes}
+use Rattle.fsrm_model.specs.objects.Thresholds.{are_thresholds}
+use Rattle.fsrm_model.specs.nodes.Tree.{is_folder, name_of, usage}
+use Rattle.fsrm_model.specs.store.Valid.{is_moment}
 use Rattle.fsrm_model.proofs.templates.EligibleLaws.{eligible, subfolders_inner}
 use Rattle.fsrm_objects.specs.Tables.{quota_texts}
 use Rattle.templates.specs.Held.{Held, with_auto, without_auto}

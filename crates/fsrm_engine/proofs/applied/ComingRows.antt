@@ -13,14 +13,14 @@ use Rattle.fsrm_base.proofs.TestLaws.{both, both_true, neither}
 use Rattle.fsrm_model.specs.declared.row.NodeRow.{NodeRow}
 use Rattle.fsrm_model.specs.declared.row.QuotaRow.{QuotaRow}
 use Rattle.fsrm_model.specs.declared.row.TemplateRow.{TemplateRow}
-use Rattle.fsrm_model.specs.AutoApply.{quotas_with}
-use Rattle.fsrm_model.specs.Quota.{folder_of, is_limit}
-use Rattle.fsrm_model.specs.QuotaStates.{start}
-use Rattle.fsrm_model.specs.Templates.{derived}
-use Rattle.fsrm_model.specs.Texts.{quota_bytes, threshold_bytes}
-use Rattle.fsrm_model.specs.Thresholds.{are_thresholds}
-use Rattle.fsrm_model.specs.Tree.{is_folder}
-use Rattle.fsrm_model.specs.Valid.{is_moment}
+use Rattle.fsrm_model.specs.objects.AutoApply.{quotas_with}
+use Rattle.fsrm_model.specs.objects.Quota.{folder_of, is_limit}
+use Rattle.fsrm_model.specs.objects.QuotaStates.{start}
+use Rattle.fsrm_model.specs.objects.Templates.{derived}
+use Rattle.fsrm_model.specs.values.Texts.{quota_bytes, threshold_bytes}
+use Rattle.fsrm_model.specs.objects.Thresholds.{are_thresholds}
+use Rattle.fsrm_model.specs.nodes.Tree.{is_folder}
+use Rattle.fsrm_model.specs.store.Valid.{is_moment}
 
 -- ---- quotas that come
 pub length-coming : (quotas coming : List QuotaRow) → length (fold quotas_with quotas coming) ≡ length quotas + length coming

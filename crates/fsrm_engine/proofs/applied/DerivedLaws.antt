@@ -12,14 +12,14 @@ use Rattle.fsrm_base.proofs.TestLaws.{both, both_true, ge_is, le_test}
 use Rattle.fsrm_model.specs.declared.command.Refusal.TheVariants.{TableFull, TextsFull}
 use Rattle.fsrm_model.specs.declared.row.QuotaRow.{QuotaRow}
 use Rattle.fsrm_model.specs.declared.row.TemplateRow.{TemplateRow}
-use Rattle.fsrm_model.specs.Limits.{latest_moment, most_quotas, most_templates, most_text_bytes}
-use Rattle.fsrm_model.specs.Quota.{folder_of, counts, is_complete, is_limit}
-use Rattle.fsrm_model.specs.QuotaStates.{start}
-use Rattle.fsrm_model.specs.Templates.{is_template, template_name, template_number, template_of}
-use Rattle.fsrm_model.specs.Texts.{template_bytes, threshold_bytes}
-use Rattle.fsrm_model.specs.Thresholds.{are_thresholds}
-use Rattle.fsrm_model.specs.Tree.{is_folder, usage}
-use Rattle.fsrm_model.specs.Valid.{IsVolume, is_moment}
+use Rattle.fsrm_model.specs.values.Limits.{latest_moment, most_quotas, most_templates, most_text_bytes}
+use Rattle.fsrm_model.specs.objects.Quota.{folder_of, counts, is_complete, is_limit}
+use Rattle.fsrm_model.specs.objects.QuotaStates.{start}
+use Rattle.fsrm_model.specs.objects.Templates.{is_template, template_name, template_number, template_of}
+use Rattle.fsrm_model.specs.values.Texts.{template_bytes, threshold_bytes}
+use Rattle.fsrm_model.specs.objects.Thresholds.{are_thresholds}
+use Rattle.fsrm_model.specs.nodes.Tree.{is_folder, usage}
+use Rattle.fsrm_model.specs.store.Valid.{IsVolume, is_moment}
 use Rattle.fsrm_model.proofs.valid.NamesApart.{named_parts}
 use Rattle.fsrm_model.proofs.valid.TemplatesKept.{IsTemplate, template_parts}
 use Rattle.fsrm_engine.specs.declared.parts.Parts.{Parts}

@@ -12,8 +12,8 @@ use Rattle.fsrm_base.proofs.Order.{ascending-filter}
 use Rattle.fsrm_base.proofs.TestLaws.{both_true}
 use Rattle.fsrm_base.proofs.RowLaws.{all_filter, each_found}
 use Rattle.fsrm_model.specs.declared.row.NodeRow.{NodeRow}
-use Rattle.fsrm_model.specs.AutoApply.{subfolders}
-use Rattle.fsrm_model.specs.Tree.{number, is_child, is_folder, children, children_in_order}
+use Rattle.fsrm_model.specs.objects.AutoApply.{subfolders}
+use Rattle.fsrm_model.specs.nodes.Tree.{number, is_child, is_folder, children, children_in_order}
 use Rattle.fsrm_model.proofs.nodes.Keeps.{found_folder}
 use Rattle.fsrm_engine.specs.Walk.{AreThere}
 use Rattle.fsrm_engine.proofs.applied.SortedNumbers.{chosen_sorted}

@@ -11,16 +11,16 @@ use Rattle.fsrm_base.proofs.EditedRows.{absent_later as apart_later, ascending_t
 use Rattle.fsrm_base.proofs.TestLaws.{both, both_true, clash, eq_is, eq_same, is_false, not_le, not_lt, not_true}
 use Rattle.fsrm_model.specs.declared.row.QuotaRow.{QuotaRow}
 use Rattle.fsrm_model.specs.declared.row.QuotaState.{QuotaState}
-use Rattle.fsrm_model.specs.AutoApply.{queue_with, quotas_with}
-use Rattle.fsrm_model.specs.Limits.{most_quotas}
-use Rattle.fsrm_model.specs.Quota.{folder_of, counts, is_limit}
-use Rattle.fsrm_model.specs.QuotaStates.{is_rebuilding, queued, same_head, scan_begun}
-use Rattle.fsrm_model.specs.Scan.{folders_under}
-use Rattle.fsrm_model.specs.Texts.{quota_bytes}
-use Rattle.fsrm_model.specs.Thresholds.{are_thresholds, are_too_many, is_threshold, percent_of}
-use Rattle.fsrm_model.specs.Tree.{is_folder, usage}
-use Rattle.fsrm_model.specs.Valid.{is_moment}
-use Rattle.fsrm_model.specs.ValidScans.{IsQueue}
+use Rattle.fsrm_model.specs.objects.AutoApply.{queue_with, quotas_with}
+use Rattle.fsrm_model.specs.values.Limits.{most_quotas}
+use Rattle.fsrm_model.specs.objects.Quota.{folder_of, counts, is_limit}
+use Rattle.fsrm_model.specs.objects.QuotaStates.{is_rebuilding, queued, same_head, scan_begun}
+use Rattle.fsrm_model.specs.objects.Scan.{folders_under}
+use Rattle.fsrm_model.specs.values.Texts.{quota_bytes}
+use Rattle.fsrm_model.specs.objects.Thresholds.{are_thresholds, are_too_many, is_threshold, percent_of}
+use Rattle.fsrm_model.specs.nodes.Tree.{is_folder, usage}
+use Rattle.fsrm_model.specs.store.Valid.{is_moment}
+use Rattle.fsrm_model.specs.store.ValidScans.{IsQueue}
 use Rattle.fsrm_model.proofs.valid.QueueKept.{queue_added}
 use Rattle.fsrm_objects.specs.declared.answer.ObjectFault.{ObjectFault}
 use Rattle.fsrm_objects.specs.declared.answer.ObjectFault.TheVariants as object

@@ -14,16 +14,16 @@ use Rattle.fsrm_model.specs.declared.row.NodeRow.{NodeRow}
 use Rattle.fsrm_model.specs.declared.row.QuotaRow.{QuotaRow}
 use Rattle.fsrm_model.specs.declared.row.Rows.{Rows}
 use Rattle.fsrm_model.specs.declared.row.TemplateRow.{TemplateRow}
-use Rattle.fsrm_model.specs.AutoApply.{queue_with, quotas_with, with_quotas}
-use Rattle.fsrm_model.specs.Check.{first, table_full, texts_full}
-use Rattle.fsrm_model.specs.FileOps.{plain}
-use Rattle.fsrm_model.specs.FileWork.{blocked, coming_quotas, judged_name, unvisited_after, unvisited_in}
-use Rattle.fsrm_model.specs.Quota.{exceeded, folder_of, peaked}
-use Rattle.fsrm_model.specs.QuotaStates.{followed, head, same_head, scan_begun, start}
-use Rattle.fsrm_model.specs.Templates.{derived, template_number, template_of}
-use Rattle.fsrm_model.specs.Tree.{number, is_folder, is_under}
-use Rattle.fsrm_model.specs.Scan.{unvisited_moved}
-use Rattle.fsrm_model.specs.Valid.{IsVolume}
+use Rattle.fsrm_model.specs.objects.AutoApply.{queue_with, quotas_with, with_quotas}
+use Rattle.fsrm_model.specs.commands.Check.{first, table_full, texts_full}
+use Rattle.fsrm_model.specs.nodes.FileOps.{plain}
+use Rattle.fsrm_model.specs.commands.FileWork.{blocked, coming_quotas, judged_name, unvisited_after, unvisited_in}
+use Rattle.fsrm_model.specs.objects.Quota.{exceeded, folder_of, peaked}
+use Rattle.fsrm_model.specs.objects.QuotaStates.{followed, head, same_head, scan_begun, start}
+use Rattle.fsrm_model.specs.objects.Templates.{derived, template_number, template_of}
+use Rattle.fsrm_model.specs.nodes.Tree.{number, is_folder, is_under}
+use Rattle.fsrm_model.specs.objects.Scan.{unvisited_moved}
+use Rattle.fsrm_model.specs.store.Valid.{IsVolume}
 use Rattle.quota_usage.specs.declared.change.Change.{Change}
 use Rattle.rescan.specs.Courses.{Course, Goes, Turns, left}
 use Rattle.file_screens.specs.declared.answer.Blocked.{Blocked}
@@ -52,10 +52,10 @@ use Rattle.fsrm_engine.proofs.operations.FollowLaws.{made_ready, volume_is}
 use Rattle.fsrm_model.specs.declared.row.Capacity.{Capacity}
 use Rattle.fsrm_model.specs.declared.row.QuotaState.{QuotaState}
 use Rattle.fsrm_model.specs.declared.row.ScreenRow.{ScreenRow}
-use Rattle.fsrm_model.specs.DueActions.{due as due_acts, quota_acts}
-use Rattle.fsrm_model.specs.Limits.{latest_moment, most_actions, most_entries}
-use Rattle.fsrm_model.specs.Reached.{IsReached, crossed, reached}
-use Rattle.fsrm_model.specs.Tree.{chain, under}
+use Rattle.fsrm_model.specs.objects.DueActions.{due as due_acts, quota_acts}
+use Rattle.fsrm_model.specs.values.Limits.{latest_moment, most_actions, most_entries}
+use Rattle.fsrm_model.specs.objects.Reached.{IsReached, crossed, reached}
+use Rattle.fsrm_model.specs.nodes.Tree.{chain, under}
 use Rattle.fsrm_model.proofs.nodes.Resolves.{resolved}
 use Rattle.fsrm_model.proofs.thresholds.ReachedLaws.{reached_parts, reached_test, unreached}
 use Rattle.fsrm_model.proofs.valid.ValidLaws.{folder_has}

@@ -19,18 +19,18 @@ use Rattle.fsrm_model.specs.declared.row.QuotaRow.{QuotaRow}
 use Rattle.fsrm_model.specs.declared.row.QuotaState.TheVariants.{Complete}
 use Rattle.fsrm_model.specs.declared.row.Rows.{Rows}
 use Rattle.fsrm_model.specs.declared.row.TemplateRow.{TemplateRow}
-use Rattle.fsrm_model.specs.AutoApply.{queue_with, quotas_with, template_for, with_quotas}
-use Rattle.fsrm_model.specs.FileOps.{made_node, new_node, plain}
-use Rattle.fsrm_model.specs.FileWork.{coming_quotas, unvisited_after}
-use Rattle.fsrm_model.specs.Check.{first, table_full, texts_full}
-use Rattle.fsrm_model.specs.Quota.{folder_of, counts, is_complete, is_limit}
-use Rattle.fsrm_model.specs.Reached.{IsReached}
-use Rattle.fsrm_model.specs.Scan.{unvisited_with}
-use Rattle.fsrm_model.specs.Templates.{derived, template_number, template_of}
-use Rattle.fsrm_model.specs.Limits.{latest_moment}
-use Rattle.fsrm_model.specs.Thresholds.{is_threshold, percent_of}
-use Rattle.fsrm_model.specs.Tree.{number, node_of, fresh, children, is_folder, folder_part, last_name, usage}
-use Rattle.fsrm_model.specs.Valid.{IsVolume, is_moment}
+use Rattle.fsrm_model.specs.objects.AutoApply.{queue_with, quotas_with, template_for, with_quotas}
+use Rattle.fsrm_model.specs.nodes.FileOps.{made_node, new_node, plain}
+use Rattle.fsrm_model.specs.commands.FileWork.{coming_quotas, unvisited_after}
+use Rattle.fsrm_model.specs.commands.Check.{first, table_full, texts_full}
+use Rattle.fsrm_model.specs.objects.Quota.{folder_of, counts, is_complete, is_limit}
+use Rattle.fsrm_model.specs.objects.Reached.{IsReached}
+use Rattle.fsrm_model.specs.objects.Scan.{unvisited_with}
+use Rattle.fsrm_model.specs.objects.Templates.{derived, template_number, template_of}
+use Rattle.fsrm_model.specs.values.Limits.{latest_moment}
+use Rattle.fsrm_model.specs.objects.Thresholds.{is_threshold, percent_of}
+use Rattle.fsrm_model.specs.nodes.Tree.{number, node_of, fresh, children, is_folder, folder_part, last_name, usage}
+use Rattle.fsrm_model.specs.store.Valid.{IsVolume, is_moment}
 use Rattle.fsrm_model.proofs.nodes.ChainLaws.{Has}
 use Rattle.fsrm_model.proofs.templates.ComingLaws.{applied_made, start_made}
 use Rattle.fsrm_model.proofs.valid.ValidLaws.{folder_has}

@@ -5,10 +5,10 @@ use Rattle.fsrm_base.proofs.TestLaws.{both_true}
 use Rattle.fsrm_model.specs.declared.command.Deed.TheVariants.{File}
 use Rattle.fsrm_model.specs.declared.command.FileOp.TheVariants.{Mkdir, Move}
 use Rattle.fsrm_model.specs.declared.row.NodeRow.{NodeRow}
-use Rattle.fsrm_model.specs.AutoApply.{template_for}
-use Rattle.fsrm_model.specs.FileOps.{target_folder}
-use Rattle.fsrm_model.specs.Leads.{leads_to_folder}
-use Rattle.fsrm_model.specs.Tree.{folder_part, last_name}
+use Rattle.fsrm_model.specs.objects.AutoApply.{template_for}
+use Rattle.fsrm_model.specs.nodes.FileOps.{target_folder}
+use Rattle.fsrm_model.specs.nodes.Leads.{leads_to_folder}
+use Rattle.fsrm_model.specs.nodes.Tree.{folder_part, last_name}
 use Rattle.fsrm_engine.specs.declared.moves.Moving.{Moving}
 use Rattle.fsrm_engine.specs.declared.parts.Parts.{Parts}
 use Rattle.fsrm_engine.specs.Machine.{rows_of}

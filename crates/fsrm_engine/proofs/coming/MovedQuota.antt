@@ -12,15 +12,15 @@ use Rattle.fsrm_model.specs.declared.row.NodeRow.{NodeRow}
 use Rattle.fsrm_model.specs.declared.row.QuotaRow.{QuotaRow}
 use Rattle.fsrm_model.specs.declared.row.QuotaState.{QuotaState}
 use Rattle.fsrm_model.specs.declared.row.Rows.{Rows}
-use Rattle.fsrm_model.specs.AutoApply.{applied, template_for}
-use Rattle.fsrm_model.specs.FileOps.{placed, plain, target}
-use Rattle.fsrm_model.specs.FileWork.{coming_quotas}
-use Rattle.fsrm_model.specs.Leads.{leads_to_folder}
-use Rattle.fsrm_model.specs.Quota.{quota_of}
-use Rattle.fsrm_model.specs.QuotaStates.{head, is_rebuilding, queued, same_head, scan_begun, start}
-use Rattle.fsrm_model.specs.Scan.{folders_under, unvisited_moved}
-use Rattle.fsrm_model.specs.Tree.{number, is_folder, is_under, resolve}
-use Rattle.fsrm_model.specs.Valid.{IsVolume}
+use Rattle.fsrm_model.specs.objects.AutoApply.{applied, template_for}
+use Rattle.fsrm_model.specs.nodes.FileOps.{placed, plain, target}
+use Rattle.fsrm_model.specs.commands.FileWork.{coming_quotas}
+use Rattle.fsrm_model.specs.nodes.Leads.{leads_to_folder}
+use Rattle.fsrm_model.specs.objects.Quota.{quota_of}
+use Rattle.fsrm_model.specs.objects.QuotaStates.{head, is_rebuilding, queued, same_head, scan_begun, start}
+use Rattle.fsrm_model.specs.objects.Scan.{folders_under, unvisited_moved}
+use Rattle.fsrm_model.specs.nodes.Tree.{number, is_folder, is_under, resolve}
+use Rattle.fsrm_model.specs.store.Valid.{IsVolume}
 use Rattle.fsrm_model.proofs.nodes.Below.{below_moved}
 use Rattle.fsrm_model.proofs.nodes.Climbs.{under_own}
 use Rattle.fsrm_model.proofs.nodes.Keeps.{folder-change, moves_at, tree_of}

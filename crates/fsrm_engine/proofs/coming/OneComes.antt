@@ -4,11 +4,11 @@ use Rattle.fsrm_base.specs.Keyed.{has_row, with_row}
 use Rattle.fsrm_base.proofs.TestLaws.{le_test}
 use Rattle.fsrm_model.specs.declared.row.QuotaRow.{QuotaRow}
 use Rattle.fsrm_model.specs.declared.row.TemplateRow.{TemplateRow}
-use Rattle.fsrm_model.specs.Limits.{latest_moment}
-use Rattle.fsrm_model.specs.Quota.{folder_of}
-use Rattle.fsrm_model.specs.QuotaStates.{queued, scan_begun, start}
-use Rattle.fsrm_model.specs.Templates.{derived, template_number, template_of}
-use Rattle.fsrm_model.specs.Tree.{is_folder}
+use Rattle.fsrm_model.specs.values.Limits.{latest_moment}
+use Rattle.fsrm_model.specs.objects.Quota.{folder_of}
+use Rattle.fsrm_model.specs.objects.QuotaStates.{queued, scan_begun, start}
+use Rattle.fsrm_model.specs.objects.Templates.{derived, template_number, template_of}
+use Rattle.fsrm_model.specs.nodes.Tree.{is_folder}
 use Rattle.rescan.specs.Courses.{left}
 use Rattle.fsrm_engine.specs.declared.parts.Parts.{Parts}
 use Rattle.fsrm_engine.specs.Arrivals.{Receives, from_source, source_fault}

@@ -16,14 +16,14 @@ use Rattle.fsrm_model.specs.declared.row.QuotaRow.{QuotaRow}
 use Rattle.fsrm_model.specs.declared.row.QuotaState.{QuotaState}
 use Rattle.fsrm_model.specs.declared.row.Rows.{Rows}
 use Rattle.fsrm_model.specs.declared.row.TemplateRow.{TemplateRow}
-use Rattle.fsrm_model.specs.AutoApply.{template_for, with_quotas}
-use Rattle.fsrm_model.specs.Check.{◌when◌, first, table_full, texts_full}
-use Rattle.fsrm_model.specs.Limits.{most_quotas, most_templates, most_text_bytes}
-use Rattle.fsrm_model.specs.Quota.{folder_of, is_limit}
-use Rattle.fsrm_model.specs.Templates.{derived, is_template, template_name, template_number, template_of}
-use Rattle.fsrm_model.specs.Text.{is_bare}
-use Rattle.fsrm_model.specs.Texts.{object_texts, quota_bytes, threshold_bytes}
-use Rattle.fsrm_model.specs.Thresholds.{are_thresholds}
+use Rattle.fsrm_model.specs.objects.AutoApply.{template_for, with_quotas}
+use Rattle.fsrm_model.specs.commands.Check.{◌when◌, first, table_full, texts_full}
+use Rattle.fsrm_model.specs.values.Limits.{most_quotas, most_templates, most_text_bytes}
+use Rattle.fsrm_model.specs.objects.Quota.{folder_of, is_limit}
+use Rattle.fsrm_model.specs.objects.Templates.{derived, is_template, template_name, template_number, template_of}
+use Rattle.fsrm_model.specs.texts.Text.{is_bare}
+use Rattle.fsrm_model.specs.values.Texts.{object_texts, quota_bytes, threshold_bytes}
+use Rattle.fsrm_model.specs.objects.Thresholds.{are_thresholds}
 use Rattle.fsrm_model.proofs.valid.NamesApart.{named_parts}
 use Rattle.fsrm_model.proofs.valid.TemplatesKept.{template_parts}
 use Rattle.fsrm_objects.specs.Tables.{quota_texts}

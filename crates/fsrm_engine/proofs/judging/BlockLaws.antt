@@ -7,11 +7,11 @@ use Rattle.fsrm_model.specs.declared.command.Deed.{Deed}
 use Rattle.fsrm_model.specs.declared.command.Outcome.TheVariants.{Refused}
 use Rattle.fsrm_model.specs.declared.command.Refusal.TheVariants.{ScreenBlocked}
 use Rattle.fsrm_model.specs.declared.row.Rows.{Rows}
-use Rattle.fsrm_model.specs.Audits.{audited}
-use Rattle.fsrm_model.specs.DueActions.{due_screen}
-use Rattle.fsrm_model.specs.Quota.{peaks}
-use Rattle.fsrm_model.specs.Step.{lasted, refused_leaving, screened_by}
-use Rattle.fsrm_model.specs.Work.{Judged}
+use Rattle.fsrm_model.specs.objects.Audits.{audited}
+use Rattle.fsrm_model.specs.objects.DueActions.{due_screen}
+use Rattle.fsrm_model.specs.objects.Quota.{peaks}
+use Rattle.fsrm_model.specs.commands.Step.{lasted, refused_leaving, screened_by}
+use Rattle.fsrm_model.specs.commands.Work.{Judged}
 use Rattle.fsrm_model.proofs.commands.OrderlyLaws.{acts_left, audited_same, left_is}
 use Rattle.rescan.specs.Courses.{Scanning}
 use Rattle.fsrm_engine.specs.declared.parts.Parts.{Parts}

@@ -8,13 +8,13 @@ use Rattle.fsrm_model.specs.declared.command.Deed.{Deed}
 use Rattle.fsrm_model.specs.declared.row.Capacity.{Capacity}
 use Rattle.fsrm_model.specs.declared.row.QuotaRow.{QuotaRow}
 use Rattle.fsrm_model.specs.declared.row.Rows.{Rows}
-use Rattle.fsrm_model.specs.DueActions.{due as due_acts}
-use Rattle.fsrm_model.specs.Limits.{most_entries}
-use Rattle.fsrm_model.specs.Quota.{peaked, peaks}
-use Rattle.fsrm_model.specs.QuotaStates.{followed}
-use Rattle.fsrm_model.specs.Runs.{ran}
-use Rattle.fsrm_model.specs.Step.{Acted, accepted, lasted, screened}
-use Rattle.fsrm_model.specs.Work.{Judged, Work}
+use Rattle.fsrm_model.specs.objects.DueActions.{due as due_acts}
+use Rattle.fsrm_model.specs.values.Limits.{most_entries}
+use Rattle.fsrm_model.specs.objects.Quota.{peaked, peaks}
+use Rattle.fsrm_model.specs.objects.QuotaStates.{followed}
+use Rattle.fsrm_model.specs.objects.Runs.{ran}
+use Rattle.fsrm_model.specs.commands.Step.{Acted, accepted, lasted, screened}
+use Rattle.fsrm_model.specs.commands.Work.{Judged, Work}
 use Rattle.fsrm_model.proofs.thresholds.ActLaws.{IsOfQuota, of_quota_due}
 use Rattle.quota_usage.specs.declared.change.Change.{Change}
 use Rattle.rescan.specs.Courses.{Scanning}

@@ -7,12 +7,12 @@ use Rattle.fsrm_base.specs.Keyed.{has_row}
 use Rattle.fsrm_base.proofs.TestLaws.{both, both_true, le_is}
 use Rattle.fsrm_model.specs.declared.row.ExceptRow.{ExceptRow}
 use Rattle.fsrm_model.specs.declared.row.ScreenRow.{ScreenRow}
-use Rattle.fsrm_model.specs.Limits.{most_actions, most_excepts, most_screens}
-use Rattle.fsrm_model.specs.Patterns.{group_number}
-use Rattle.fsrm_model.specs.Screens.{screen_folder, except_folder, judging}
-use Rattle.fsrm_model.specs.Thresholds.{is_kept_action}
-use Rattle.fsrm_model.specs.Tree.{is_folder}
-use Rattle.fsrm_model.specs.Valid.{are_group_numbers, is_sound_except, is_sound_screen}
+use Rattle.fsrm_model.specs.values.Limits.{most_actions, most_excepts, most_screens}
+use Rattle.fsrm_model.specs.values.Patterns.{group_number}
+use Rattle.fsrm_model.specs.objects.Screens.{screen_folder, except_folder, judging}
+use Rattle.fsrm_model.specs.objects.Thresholds.{is_kept_action}
+use Rattle.fsrm_model.specs.nodes.Tree.{is_folder}
+use Rattle.fsrm_model.specs.store.Valid.{are_group_numbers, is_sound_except, is_sound_screen}
 use Rattle.fsrm_model.proofs.screens.JudgingLaws.{judging_own}
 use Rattle.fsrm_model.proofs.valid.ScreensKept.{all_weaker, number_parts, screen_at, screen_parts, table_parts}
 use Rattle.file_screens.specs.declared.answer.Blocked.{Blocked}

@@ -5,8 +5,8 @@ use Rattle.std.specs.Prelude.{filter_map}
 use Rattle.std.specs.List.{AllByRecursion, list_all}
 use Rattle.fsrm_base.specs.Numbers.{is_set}
 use Rattle.fsrm_model.specs.declared.command.Act.{Act}
-use Rattle.fsrm_model.specs.Acts.{has_act, of_quotas, of_screens}
-use Rattle.fsrm_model.specs.Quota.{peaked}
+use Rattle.fsrm_model.specs.objects.Acts.{has_act, of_quotas, of_screens}
+use Rattle.fsrm_model.specs.objects.Quota.{peaked}
 use Rattle.fsrm_model.proofs.thresholds.ActLaws.{IsOfQuota, IsOfScreen}
 use Rattle.fsrm_objects.specs.Tables.{Tables}
 use Rattle.thresholds.specs.Marked.{are_screen_acts, are_there, screen_act_at, screen_waiting, waiting}

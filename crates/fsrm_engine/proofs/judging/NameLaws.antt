@@ -11,11 +11,11 @@ use Rattle.fsrm_model.specs.declared.command.Refusal.{Refusal}
 use Rattle.fsrm_model.specs.declared.command.Refusal.TheVariants.{ScreenBlocked}
 use Rattle.fsrm_model.specs.declared.row.Rows.{Rows}
 use Rattle.fsrm_model.specs.declared.row.ScreenRow.{ScreenRow}
-use Rattle.fsrm_model.specs.FileOps.{target, target_folder}
-use Rattle.fsrm_model.specs.FileWork.{blocked, judged_by, judged_name, reported}
-use Rattle.fsrm_model.specs.Screens.{judging}
-use Rattle.fsrm_model.specs.Tree.{folder_part, last_name, owner_of, is_folder, resolve}
-use Rattle.fsrm_model.specs.Work.{Judged}
+use Rattle.fsrm_model.specs.nodes.FileOps.{target, target_folder}
+use Rattle.fsrm_model.specs.commands.FileWork.{blocked, judged_by, judged_name, reported}
+use Rattle.fsrm_model.specs.objects.Screens.{judging}
+use Rattle.fsrm_model.specs.nodes.Tree.{folder_part, last_name, owner_of, is_folder, resolve}
+use Rattle.fsrm_model.specs.commands.Work.{Judged}
 use Rattle.rescan.specs.Courses.{Scanning}
 use Rattle.file_screens.specs.declared.answer.Blocked.{Blocked}
 use Rattle.file_screens.specs.Blocked.{told}

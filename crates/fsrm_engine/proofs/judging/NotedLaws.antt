@@ -8,13 +8,13 @@ use Rattle.fsrm_model.specs.declared.row.ActRow.{ActRow}
 use Rattle.fsrm_model.specs.declared.row.AuditRow.{AuditRow}
 use Rattle.fsrm_model.specs.declared.row.QuotaRow.{QuotaRow}
 use Rattle.fsrm_model.specs.declared.row.ScreenRow.{ScreenRow}
-use Rattle.fsrm_model.specs.Audits.{audit_of, with_audit}
-use Rattle.fsrm_model.specs.DueActions.{due_screen}
-use Rattle.fsrm_model.specs.Limits.{most_entries, most_quotas}
-use Rattle.fsrm_model.specs.Runs.{entry_of, last_entries, run_screen}
-use Rattle.fsrm_model.specs.Step.{screened}
-use Rattle.fsrm_model.specs.Valid.{IsVolume}
-use Rattle.fsrm_model.specs.Work.{Judged}
+use Rattle.fsrm_model.specs.objects.Audits.{audit_of, with_audit}
+use Rattle.fsrm_model.specs.objects.DueActions.{due_screen}
+use Rattle.fsrm_model.specs.values.Limits.{most_entries, most_quotas}
+use Rattle.fsrm_model.specs.objects.Runs.{entry_of, last_entries, run_screen}
+use Rattle.fsrm_model.specs.commands.Step.{screened}
+use Rattle.fsrm_model.specs.store.Valid.{IsVolume}
+use Rattle.fsrm_model.specs.commands.Work.{Judged}
 use Rattle.fsrm_model.proofs.thresholds.ActLaws.{IsOfScreen}
 use Rattle.fsrm_model.proofs.thresholds.RunLaws.{few_entries}
 use Rattle.fsrm_model.proofs.thresholds.UnrunLaws.{of_screen_due, quotas_unrun}

@@ -6,12 +6,12 @@ use Rattle.std.specs.Prelude.{sum_by}
 use Rattle.fsrm_model.specs.declared.row.Capacity.{Capacity}
 use Rattle.fsrm_model.specs.declared.row.NodeRow.{NodeRow}
 use Rattle.fsrm_model.specs.declared.row.QuotaRow.{QuotaRow}
-use Rattle.fsrm_model.specs.FileOps.{made_node, placed}
+use Rattle.fsrm_model.specs.nodes.FileOps.{made_node, placed}
 use Rattle.fsrm_base.specs.Keyed.{has_row, row_of, with_row, with_change, without_row}
-use Rattle.fsrm_model.specs.Quota.{folder_of}
-use Rattle.fsrm_model.specs.Space.{space}
-use Rattle.fsrm_model.specs.Tree.{number, node_of, parent_of, fresh, is_folder, is_under, usage, chain}
-use Rattle.fsrm_model.specs.Valid.{IsVolume, AreQuotas}
+use Rattle.fsrm_model.specs.objects.Quota.{folder_of}
+use Rattle.fsrm_model.specs.values.Space.{space}
+use Rattle.fsrm_model.specs.nodes.Tree.{number, node_of, parent_of, fresh, is_folder, is_under, usage, chain}
+use Rattle.fsrm_model.specs.store.Valid.{IsVolume, AreQuotas}
 use Rattle.fsrm_model.proofs.nodes.ChainLaws.{IsTree, Has, share, usage_is, usage-new, chain-new_other}
 use Rattle.fsrm_base.specs.Numbers.{is_in}
 use Rattle.fsrm_base.proofs.EditedRows.{all_rows}

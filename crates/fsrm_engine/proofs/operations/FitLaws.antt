@@ -9,14 +9,14 @@ use Rattle.std.specs.List.{AllByRecursion}
 use Rattle.fsrm_model.specs.declared.row.Capacity.{Capacity}
 use Rattle.fsrm_model.specs.declared.row.NodeRow.{NodeRow}
 use Rattle.fsrm_model.specs.declared.row.QuotaRow.{QuotaRow}
-use Rattle.fsrm_model.specs.Capacities.{is_capacity}
-use Rattle.fsrm_model.specs.FileOps.{placed}
+use Rattle.fsrm_model.specs.store.Capacities.{is_capacity}
+use Rattle.fsrm_model.specs.nodes.FileOps.{placed}
 use Rattle.fsrm_base.specs.Keyed.{row_of, with_change, without_row}
-use Rattle.fsrm_model.specs.Limits.{longest_file}
-use Rattle.fsrm_model.specs.Quota.{folder_of, counts}
-use Rattle.fsrm_model.specs.Space.{space}
-use Rattle.fsrm_model.specs.Tree.{number, usage}
-use Rattle.fsrm_model.specs.Valid.{IsVolume, AreQuotas}
+use Rattle.fsrm_model.specs.values.Limits.{longest_file}
+use Rattle.fsrm_model.specs.objects.Quota.{folder_of, counts}
+use Rattle.fsrm_model.specs.values.Space.{space}
+use Rattle.fsrm_model.specs.nodes.Tree.{number, usage}
+use Rattle.fsrm_model.specs.store.Valid.{IsVolume, AreQuotas}
 use Rattle.fsrm_base.proofs.Look.{found_key, has_found}
 use Rattle.fsrm_base.proofs.EditedRows.{sum_by-without_row}
 use Rattle.fsrm_model.proofs.nodes.Sizes.{length-removed}

@@ -13,15 +13,15 @@ use Rattle.fsrm_model.specs.declared.row.QuotaRow.{QuotaRow}
 use Rattle.fsrm_model.specs.declared.row.Rows.{Rows}
 use Rattle.fsrm_model.specs.declared.row.ScreenRow.{ScreenRow}
 use Rattle.fsrm_model.specs.declared.row.ExceptRow.{ExceptRow}
-use Rattle.fsrm_model.specs.FileOps.{made_node, target, target_folder, placed, plain}
-use Rattle.fsrm_model.specs.FileWork.{unvisited_in, file_effect}
+use Rattle.fsrm_model.specs.nodes.FileOps.{made_node, target, target_folder, placed, plain}
+use Rattle.fsrm_model.specs.commands.FileWork.{unvisited_in, file_effect}
 use Rattle.fsrm_base.specs.Keyed.{has_row, with_row, with_change}
 use Rattle.fsrm_base.specs.Numbers.{is_in, without_number}
-use Rattle.fsrm_model.specs.Quota.{peaked}
-use Rattle.fsrm_model.specs.QuotaStates.{followed, head, scan_begun}
-use Rattle.fsrm_model.specs.Scan.{unvisited_with, unvisited_moved}
-use Rattle.fsrm_model.specs.Tree.{number, node_of, fresh, is_folder, folder_part, last_name, resolve, chain}
-use Rattle.fsrm_model.specs.Valid.{IsVolume}
+use Rattle.fsrm_model.specs.objects.Quota.{peaked}
+use Rattle.fsrm_model.specs.objects.QuotaStates.{followed, head, scan_begun}
+use Rattle.fsrm_model.specs.objects.Scan.{unvisited_with, unvisited_moved}
+use Rattle.fsrm_model.specs.nodes.Tree.{number, node_of, fresh, is_folder, folder_part, last_name, resolve, chain}
+use Rattle.fsrm_model.specs.store.Valid.{IsVolume}
 use Rattle.fsrm_base.proofs.Look.{found_has}
 use Rattle.fsrm_model.proofs.nodes.ChainLaws.{Has, chain-new}
 use Rattle.fsrm_model.proofs.nodes.Keeps.{found_folder, tree_of, as_suc}

@@ -7,17 +7,17 @@ use Rattle.fsrm_base.specs.Causes.{◌when◌}
 use Rattle.fsrm_model.specs.declared.command.Deed.TheVariants.{File}
 use Rattle.fsrm_model.specs.declared.command.FileOp.TheVariants.{Remove}
 use Rattle.fsrm_model.specs.declared.row.NodeRow.{NodeRow}
-use Rattle.fsrm_model.specs.FileOps.{plain}
-use Rattle.fsrm_model.specs.FileWork.{unvisited_in}
-use Rattle.fsrm_model.specs.Quota.{folder_of}
-use Rattle.fsrm_model.specs.AutoApply.{auto_folder}
+use Rattle.fsrm_model.specs.nodes.FileOps.{plain}
+use Rattle.fsrm_model.specs.commands.FileWork.{unvisited_in}
+use Rattle.fsrm_model.specs.objects.Quota.{folder_of}
+use Rattle.fsrm_model.specs.objects.AutoApply.{auto_folder}
 use Rattle.fsrm_base.specs.Keyed.{without_row}
 use Rattle.fsrm_base.specs.Numbers.{is_in, without_number}
-use Rattle.fsrm_model.specs.QuotaStates.{head, same_head, scan_begun}
-use Rattle.fsrm_model.specs.Scan.{folders_under}
-use Rattle.fsrm_model.specs.Screens.{screen_folder, except_folder}
-use Rattle.fsrm_model.specs.Tree.{number, node_of, is_folder, children, resolve}
-use Rattle.fsrm_model.specs.Valid.{IsVolume}
+use Rattle.fsrm_model.specs.objects.QuotaStates.{head, same_head, scan_begun}
+use Rattle.fsrm_model.specs.objects.Scan.{folders_under}
+use Rattle.fsrm_model.specs.objects.Screens.{screen_folder, except_folder}
+use Rattle.fsrm_model.specs.nodes.Tree.{number, node_of, is_folder, children, resolve}
+use Rattle.fsrm_model.specs.store.Valid.{IsVolume}
 use Rattle.std.proofs.lemmas.Bool.Decides.{nat_tests}
 use Rattle.fsrm_base.proofs.Look.{eq_turned}
 use Rattle.fsrm_base.proofs.TestLaws.{eq_same, eq_is}

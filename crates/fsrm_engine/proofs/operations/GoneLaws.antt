@@ -8,12 +8,12 @@ use Rattle.fsrm_base.proofs.Look.{found_key, has_found, row_of-without}
 use Rattle.fsrm_base.proofs.Members.{all_found}
 use Rattle.fsrm_base.proofs.TestLaws.{both, clash, not_true}
 use Rattle.fsrm_model.specs.declared.row.QuotaRow.{QuotaRow}
-use Rattle.fsrm_model.specs.AutoApply.{auto_folder}
-use Rattle.fsrm_model.specs.Limits.{most_excepts}
-use Rattle.fsrm_model.specs.Quota.{folder_of}
-use Rattle.fsrm_model.specs.Screens.{screen_folder, except_folder}
-use Rattle.fsrm_model.specs.Tree.{is_folder}
-use Rattle.fsrm_model.specs.Valid.{are_group_numbers, is_sound_auto, is_sound_except}
+use Rattle.fsrm_model.specs.objects.AutoApply.{auto_folder}
+use Rattle.fsrm_model.specs.values.Limits.{most_excepts}
+use Rattle.fsrm_model.specs.objects.Quota.{folder_of}
+use Rattle.fsrm_model.specs.objects.Screens.{screen_folder, except_folder}
+use Rattle.fsrm_model.specs.nodes.Tree.{is_folder}
+use Rattle.fsrm_model.specs.store.Valid.{are_group_numbers, is_sound_auto, is_sound_except}
 use Rattle.fsrm_model.proofs.valid.RowsKept.{screens_folder}
 use Rattle.fsrm_model.proofs.valid.ScreensKept.{table_parts}
 use Rattle.fsrm_model.proofs.valid.TemplatesKept.{auto_parts}

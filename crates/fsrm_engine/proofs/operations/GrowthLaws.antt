@@ -10,14 +10,14 @@ use Rattle.fsrm_model.specs.declared.command.Refusal.TheVariants.{PathNotFound}
 use Rattle.fsrm_model.specs.declared.row.Capacity.{Capacity}
 use Rattle.fsrm_model.specs.declared.row.NodeRow.{NodeRow}
 use Rattle.fsrm_model.specs.declared.row.QuotaRow.{QuotaRow}
-use Rattle.fsrm_model.specs.Check.{Check, ◌when◌, first}
-use Rattle.fsrm_model.specs.FileOps.{target, resized, made_node, placed}
+use Rattle.fsrm_model.specs.commands.Check.{Check, ◌when◌, first}
+use Rattle.fsrm_model.specs.nodes.FileOps.{target, resized, made_node, placed}
 use Rattle.fsrm_base.specs.Keyed.{row_of, has_row, with_row, with_change}
-use Rattle.fsrm_model.specs.Leads.{leads_to_file}
-use Rattle.fsrm_model.specs.Quota.{folder_of, exceeded, peaked}
-use Rattle.fsrm_model.specs.Space.{alloc, space}
-use Rattle.fsrm_model.specs.Tree.{number, node_of, parent_of, is_folder, chain}
-use Rattle.fsrm_model.specs.Valid.{IsVolume, AreQuotas, is_moment}
+use Rattle.fsrm_model.specs.nodes.Leads.{leads_to_file}
+use Rattle.fsrm_model.specs.objects.Quota.{folder_of, exceeded, peaked}
+use Rattle.fsrm_model.specs.values.Space.{alloc, space}
+use Rattle.fsrm_model.specs.nodes.Tree.{number, node_of, parent_of, is_folder, chain}
+use Rattle.fsrm_model.specs.store.Valid.{IsVolume, AreQuotas, is_moment}
 use Rattle.fsrm_model.proofs.nodes.ChangeLaws.{KeepsPlace, chain-change}
 use Rattle.fsrm_model.proofs.nodes.Climbs.{shorter}
 use Rattle.fsrm_model.proofs.nodes.Resolves.{resolved}

@@ -12,16 +12,16 @@ use Rattle.fsrm_model.specs.declared.row.NodeRow.{NodeRow}
 use Rattle.fsrm_model.specs.declared.row.QuotaRow.{QuotaRow}
 use Rattle.fsrm_model.specs.declared.row.ScreenRow.{ScreenRow}
 use Rattle.fsrm_model.specs.declared.row.ExceptRow.{ExceptRow}
-use Rattle.fsrm_model.specs.Capacities.{is_capacity}
-use Rattle.fsrm_model.specs.Check.{◌when◌, first}
-use Rattle.fsrm_model.specs.FileOps.{made_node, touched}
+use Rattle.fsrm_model.specs.store.Capacities.{is_capacity}
+use Rattle.fsrm_model.specs.commands.Check.{◌when◌, first}
+use Rattle.fsrm_model.specs.nodes.FileOps.{made_node, touched}
 use Rattle.fsrm_base.specs.Keyed.{row_of, has_row, is_ascending, with_row, with_change, without_row}
-use Rattle.fsrm_model.specs.Limits.{longest_file}
-use Rattle.fsrm_model.specs.Quota.{folder_of, counts, used_of}
-use Rattle.fsrm_model.specs.Screens.{screen_folder, except_folder}
-use Rattle.fsrm_model.specs.Space.{alloc, space}
-use Rattle.fsrm_model.specs.Tree.{number, parent_of, fresh, is_folder, is_under, is_child, children, resolve, chain, usage}
-use Rattle.fsrm_model.specs.Valid.{IsVolume}
+use Rattle.fsrm_model.specs.values.Limits.{longest_file}
+use Rattle.fsrm_model.specs.objects.Quota.{folder_of, counts, used_of}
+use Rattle.fsrm_model.specs.objects.Screens.{screen_folder, except_folder}
+use Rattle.fsrm_model.specs.values.Space.{alloc, space}
+use Rattle.fsrm_model.specs.nodes.Tree.{number, parent_of, fresh, is_folder, is_under, is_child, children, resolve, chain, usage}
+use Rattle.fsrm_model.specs.store.Valid.{IsVolume}
 use Rattle.fsrm_model.proofs.nodes.ChainLaws.{Has, usage-new}
 use Rattle.fsrm_model.proofs.nodes.ChangeLaws.{KeepsPlace, usage-change}
 use Rattle.fsrm_model.proofs.nodes.Climbs.{shorter}

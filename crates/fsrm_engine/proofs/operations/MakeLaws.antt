@@ -4,11 +4,11 @@ use Rattle.std.specs.Prelude.{map}
 use Rattle.fsrm_model.specs.declared.row.Capacity.{Capacity}
 use Rattle.fsrm_model.specs.declared.row.NodeRow.{NodeRow}
 use Rattle.fsrm_model.specs.declared.row.QuotaRow.{QuotaRow}
-use Rattle.fsrm_model.specs.FileOps.{made_node}
+use Rattle.fsrm_model.specs.nodes.FileOps.{made_node}
 use Rattle.fsrm_base.specs.Keyed.{has_row, with_row}
-use Rattle.fsrm_model.specs.Space.{alloc}
-use Rattle.fsrm_model.specs.Tree.{number, is_folder, chain}
-use Rattle.fsrm_model.specs.Valid.{IsVolume, AreQuotas}
+use Rattle.fsrm_model.specs.values.Space.{alloc}
+use Rattle.fsrm_model.specs.nodes.Tree.{number, is_folder, chain}
+use Rattle.fsrm_model.specs.store.Valid.{IsVolume, AreQuotas}
 use Rattle.fsrm_model.proofs.nodes.ChainLaws.{chain-new_other}
 use Rattle.fsrm_model.proofs.nodes.Keeps.{tree_of}
 use Rattle.fsrm_base.proofs.Order.{least_free_is}

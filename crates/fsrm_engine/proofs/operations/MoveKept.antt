@@ -6,12 +6,12 @@ use Rattle.fsrm_model.specs.declared.command.FileOp.TheVariants.{Move}
 use Rattle.fsrm_model.specs.declared.row.Capacity.{Capacity}
 use Rattle.fsrm_model.specs.declared.row.NodeRow.{NodeRow}
 use Rattle.fsrm_model.specs.declared.row.QuotaRow.{QuotaRow}
-use Rattle.fsrm_model.specs.Cost.{op_cost}
-use Rattle.fsrm_model.specs.FileOps.{placed}
+use Rattle.fsrm_model.specs.commands.Cost.{op_cost}
+use Rattle.fsrm_model.specs.nodes.FileOps.{placed}
 use Rattle.fsrm_base.specs.Keyed.{has_row, with_change}
-use Rattle.fsrm_model.specs.Leads.{leads_to_folder}
-use Rattle.fsrm_model.specs.Tree.{number, name_of, parent_of, is_folder, is_under, under, chain, resolve, child_number, name_bytes}
-use Rattle.fsrm_model.specs.Valid.{IsVolume, AreQuotas}
+use Rattle.fsrm_model.specs.nodes.Leads.{leads_to_folder}
+use Rattle.fsrm_model.specs.nodes.Tree.{number, name_of, parent_of, is_folder, is_under, under, chain, resolve, child_number, name_bytes}
+use Rattle.fsrm_model.specs.store.Valid.{IsVolume, AreQuotas}
 use Rattle.fsrm_model.proofs.nodes.Climbs.{shorter}
 use Rattle.fsrm_model.proofs.nodes.Keeps.{tree_of}
 use Rattle.fsrm_base.proofs.Look.{has_row-change, has_found}

@@ -8,14 +8,14 @@ use Rattle.fsrm_model.specs.declared.command.Refusal.{Refusal}
 use Rattle.fsrm_model.specs.declared.command.Refusal.TheVariants.{AlreadyExists, PathNotFound, InvalidMove, NamesFull}
 use Rattle.fsrm_model.specs.declared.row.Capacity.{Capacity}
 use Rattle.fsrm_model.specs.declared.row.NodeRow.{NodeRow}
-use Rattle.fsrm_model.specs.Check.{Check, ◌when◌, first, table_full, texts_full}
-use Rattle.fsrm_model.specs.Quota.{exceeded}
-use Rattle.fsrm_model.specs.FileOps.{target, target_folder, placed}
-use Rattle.fsrm_model.specs.FileWork.{blocked, file_effect, judged_name}
+use Rattle.fsrm_model.specs.commands.Check.{Check, ◌when◌, first, table_full, texts_full}
+use Rattle.fsrm_model.specs.objects.Quota.{exceeded}
+use Rattle.fsrm_model.specs.nodes.FileOps.{target, target_folder, placed}
+use Rattle.fsrm_model.specs.commands.FileWork.{blocked, file_effect, judged_name}
 use Rattle.fsrm_base.specs.Keyed.{has_row, with_change}
-use Rattle.fsrm_model.specs.Leads.{is_root, leads, leads_to_folder, leads_to_other}
-use Rattle.fsrm_model.specs.Tree.{number, name_of, is_folder, is_under, resolve, folder_part, last_name, child_number, name_bytes}
-use Rattle.fsrm_model.specs.Valid.{IsVolume}
+use Rattle.fsrm_model.specs.nodes.Leads.{is_root, leads, leads_to_folder, leads_to_other}
+use Rattle.fsrm_model.specs.nodes.Tree.{number, name_of, is_folder, is_under, resolve, folder_part, last_name, child_number, name_bytes}
+use Rattle.fsrm_model.specs.store.Valid.{IsVolume}
 use Rattle.fsrm_base.proofs.TestLaws.{clash}
 use Rattle.fsrm_model.proofs.nodes.Files.{below_file}
 use Rattle.fsrm_model.proofs.nodes.Sizes.{name_bytes-placed}

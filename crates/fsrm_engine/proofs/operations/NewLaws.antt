@@ -11,15 +11,15 @@ use Rattle.fsrm_model.specs.declared.command.Refusal.{Refusal}
 use Rattle.fsrm_model.specs.declared.command.Refusal.TheVariants.{AlreadyExists, PathNotFound, VolumeFull, NamesFull}
 use Rattle.fsrm_model.specs.declared.row.Capacity.{Capacity}
 use Rattle.fsrm_model.specs.declared.row.NodeRow.{NodeRow}
-use Rattle.fsrm_model.specs.Check.{Check, ◌when◌, first, table_full, texts_full}
-use Rattle.fsrm_model.specs.Quota.{exceeded}
-use Rattle.fsrm_model.specs.FileOps.{made_node, new_node, target_folder}
-use Rattle.fsrm_model.specs.FileWork.{blocked, file_effect, judged_name}
+use Rattle.fsrm_model.specs.commands.Check.{Check, ◌when◌, first, table_full, texts_full}
+use Rattle.fsrm_model.specs.objects.Quota.{exceeded}
+use Rattle.fsrm_model.specs.nodes.FileOps.{made_node, new_node, target_folder}
+use Rattle.fsrm_model.specs.commands.FileWork.{blocked, file_effect, judged_name}
 use Rattle.fsrm_base.specs.Keyed.{with_row}
-use Rattle.fsrm_model.specs.Leads.{is_root, leads, leads_to_folder}
-use Rattle.fsrm_model.specs.Text.{is_bare}
-use Rattle.fsrm_model.specs.Tree.{number, folder_part, last_name, child_number, is_folder, name_bytes, resolve}
-use Rattle.fsrm_model.specs.Valid.{IsVolume}
+use Rattle.fsrm_model.specs.nodes.Leads.{is_root, leads, leads_to_folder}
+use Rattle.fsrm_model.specs.texts.Text.{is_bare}
+use Rattle.fsrm_model.specs.nodes.Tree.{number, folder_part, last_name, child_number, is_folder, name_bytes, resolve}
+use Rattle.fsrm_model.specs.store.Valid.{IsVolume}
 use Rattle.fsrm_base.proofs.Order.{length-with_row}
 use Rattle.fsrm_model.proofs.nodes.Resolves.{resolve_child, some_name}
 use Rattle.fsrm_model.proofs.nodes.Sizes.{name_bytes-new}

@@ -9,9 +9,9 @@ use Rattle.fsrm_model.specs.declared.row.NodeRow.{NodeRow}
 use Rattle.fsrm_model.specs.declared.row.QuotaRow.{QuotaRow}
 use Rattle.fsrm_model.specs.declared.row.Rows.{Rows}
 use Rattle.fsrm_base.specs.Keyed.{row_of, is_ascending}
-use Rattle.fsrm_model.specs.Quota.{folder_of, counts, refuses, over, deepest, exceeded}
-use Rattle.fsrm_model.specs.Tree.{is_under, usage}
-use Rattle.fsrm_model.specs.Valid.{AreQuotas}
+use Rattle.fsrm_model.specs.objects.Quota.{folder_of, counts, refuses, over, deepest, exceeded}
+use Rattle.fsrm_model.specs.nodes.Tree.{is_under, usage}
+use Rattle.fsrm_model.specs.store.Valid.{AreQuotas}
 use Rattle.fsrm_base.proofs.TestLaws.{both}
 use Rattle.fsrm_model.proofs.valid.ValidLaws.{folder_has}
 use Rattle.quota_usage.specs.declared.change.Change.{Change}

@@ -3,11 +3,11 @@ use Rattle.std.proofs.Common.{◌≡◌, ℕ, ◌==◌, Bool, true, false, not, 
 use Rattle.fsrm_model.specs.declared.command.Deed.TheVariants.{File}
 use Rattle.fsrm_model.specs.declared.command.FileOp.TheVariants.{Remove}
 use Rattle.fsrm_model.specs.declared.command.Refusal.TheVariants.{PathNotFound, InvalidMove, NotEmpty}
-use Rattle.fsrm_model.specs.Check.{Check, ◌when◌, first}
-use Rattle.fsrm_model.specs.FileOps.{target}
-use Rattle.fsrm_model.specs.Leads.{is_root, leads}
-use Rattle.fsrm_model.specs.Tree.{children, resolve}
-use Rattle.fsrm_model.specs.Valid.{IsVolume}
+use Rattle.fsrm_model.specs.commands.Check.{Check, ◌when◌, first}
+use Rattle.fsrm_model.specs.nodes.FileOps.{target}
+use Rattle.fsrm_model.specs.nodes.Leads.{is_root, leads}
+use Rattle.fsrm_model.specs.nodes.Tree.{children, resolve}
+use Rattle.fsrm_model.specs.store.Valid.{IsVolume}
 use Rattle.volume_tree.specs.declared.answer.TreeFault.TheVariants as fault
 use Rattle.volume_tree.specs.Volume.{remove_fault}
 use Rattle.fsrm_engine.specs.declared.parts.Parts.{Parts}

@@ -12,11 +12,11 @@ use Rattle.fsrm_model.specs.declared.row.NodeRow.{NodeRow}
 use Rattle.fsrm_model.specs.declared.row.QuotaRow.{QuotaRow}
 use Rattle.fsrm_model.specs.declared.row.Rows.{Rows}
 use Rattle.fsrm_model.specs.declared.row.Threshold.{Threshold}
-use Rattle.fsrm_model.specs.Limits.{greatest_limit, greatest_percent, least_limit}
-use Rattle.fsrm_model.specs.Quota.{folder_of, quota_of, counts, is_limit}
-use Rattle.fsrm_model.specs.Reached.{crossed, has_reached, reached, reaches, IsReached}
-use Rattle.fsrm_model.specs.Thresholds.{are_thresholds, are_too_many, is_kept_action, is_percent, is_threshold, percent_of}
-use Rattle.fsrm_model.specs.Tree.{usage}
+use Rattle.fsrm_model.specs.values.Limits.{greatest_limit, greatest_percent, least_limit}
+use Rattle.fsrm_model.specs.objects.Quota.{folder_of, quota_of, counts, is_limit}
+use Rattle.fsrm_model.specs.objects.Reached.{crossed, has_reached, reached, reaches, IsReached}
+use Rattle.fsrm_model.specs.objects.Thresholds.{are_thresholds, are_too_many, is_kept_action, is_percent, is_threshold, percent_of}
+use Rattle.fsrm_model.specs.nodes.Tree.{usage}
 use Rattle.fsrm_model.proofs.thresholds.ActLaws.{none_due}
 use Rattle.fsrm_model.proofs.thresholds.DueLaws.{also}
 use Rattle.fsrm_model.proofs.thresholds.ReachedLaws.{reached_parts, reached_test}

@@ -5,10 +5,10 @@ use Rattle.fsrm_base.specs.Keyed.{row_of, has_row}
 use Rattle.fsrm_model.specs.declared.row.Capacity.{Capacity}
 use Rattle.fsrm_model.specs.declared.row.QuotaRow.{QuotaRow}
 use Rattle.fsrm_model.specs.declared.row.Rows.{Rows}
-use Rattle.fsrm_model.specs.Quota.{folder_of, quota_of, counts, used_of}
-use Rattle.fsrm_model.specs.Reached.{crossed, has_reached, reached}
-use Rattle.fsrm_model.specs.Thresholds.{percent_of}
-use Rattle.fsrm_model.specs.Tree.{usage}
+use Rattle.fsrm_model.specs.objects.Quota.{folder_of, quota_of, counts, used_of}
+use Rattle.fsrm_model.specs.objects.Reached.{crossed, has_reached, reached}
+use Rattle.fsrm_model.specs.objects.Thresholds.{percent_of}
+use Rattle.fsrm_model.specs.nodes.Tree.{usage}
 use Rattle.quota_usage.specs.Counters.{used_in}
 use Rattle.thresholds.specs.Settled.{crosses, due_in}
 use Rattle.fsrm_engine.specs.declared.parts.Parts.{Parts}

@@ -12,9 +12,9 @@ use Rattle.fsrm_base.proofs.TestLaws.{both, both_true, clash, is_false, le_test}
 use Rattle.fsrm_model.specs.declared.command.Act.{Act}
 use Rattle.fsrm_model.specs.declared.row.NodeRow.{NodeRow}
 use Rattle.fsrm_model.specs.declared.row.QuotaRow.{QuotaRow}
-use Rattle.fsrm_model.specs.Limits.{most_entries, most_quotas}
-use Rattle.fsrm_model.specs.Quota.{folder_of}
-use Rattle.fsrm_model.specs.Tree.{is_under}
+use Rattle.fsrm_model.specs.values.Limits.{most_entries, most_quotas}
+use Rattle.fsrm_model.specs.objects.Quota.{folder_of}
+use Rattle.fsrm_model.specs.nodes.Tree.{is_under}
 use Rattle.fsrm_model.proofs.thresholds.SettleLaws.{no_acts}
 use Rattle.fsrm_objects.specs.Tables.{Tables}
 use Rattle.number_set.specs.Numbers.{Numbers, no_numbers}

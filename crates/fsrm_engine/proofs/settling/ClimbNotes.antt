@@ -7,8 +7,8 @@ use Rattle.fsrm_base.specs.Numbers.{is_in}
 use Rattle.fsrm_base.proofs.TestLaws.{and_false}
 use Rattle.fsrm_model.specs.declared.row.NodeRow.{NodeRow}
 use Rattle.fsrm_model.specs.declared.row.QuotaRow.{QuotaRow}
-use Rattle.fsrm_model.specs.Quota.{folder_of}
-use Rattle.fsrm_model.specs.Tree.{is_under}
+use Rattle.fsrm_model.specs.objects.Quota.{folder_of}
+use Rattle.fsrm_model.specs.nodes.Tree.{is_under}
 use Rattle.number_set.specs.Numbers.{Numbers}
 use Rattle.quota_usage.specs.declared.change.Counter.{Counter}
 use Rattle.quota_usage.specs.Counters.{used_in}

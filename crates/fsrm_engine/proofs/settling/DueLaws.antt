@@ -18,11 +18,11 @@ use Rattle.fsrm_model.specs.declared.row.NodeRow.{NodeRow}
 use Rattle.fsrm_model.specs.declared.row.QuotaRow.{QuotaRow}
 use Rattle.fsrm_model.specs.declared.row.Rows.{Rows}
 use Rattle.fsrm_model.specs.declared.row.Threshold.{Threshold}
-use Rattle.fsrm_model.specs.DueActions.{due_refused, quota_acts}
-use Rattle.fsrm_model.specs.Quota.{folder_of, quota_of, counts, used_of, over, deepest, exceeded}
-use Rattle.fsrm_model.specs.Reached.{crossed, has_reached, reached, reaches}
-use Rattle.fsrm_model.specs.Thresholds.{percent_of}
-use Rattle.fsrm_model.specs.Tree.{usage}
+use Rattle.fsrm_model.specs.objects.DueActions.{due_refused, quota_acts}
+use Rattle.fsrm_model.specs.objects.Quota.{folder_of, quota_of, counts, used_of, over, deepest, exceeded}
+use Rattle.fsrm_model.specs.objects.Reached.{crossed, has_reached, reached, reaches}
+use Rattle.fsrm_model.specs.objects.Thresholds.{percent_of}
+use Rattle.fsrm_model.specs.nodes.Tree.{usage}
 use Rattle.fsrm_model.proofs.thresholds.DueLaws.{also}
 use Rattle.fsrm_model.proofs.thresholds.RaisesLaws.{refuser}
 use Rattle.fsrm_model.proofs.thresholds.SettleLaws.{no_acts}

@@ -12,13 +12,13 @@ use Rattle.fsrm_model.specs.declared.row.Rows.{Rows}
 use Rattle.fsrm_model.specs.declared.row.ScreenRow.{ScreenRow}
 use Rattle.fsrm_model.specs.declared.row.Threshold.{Threshold}
 use Rattle.fsrm_model.specs.declared.command.Subject.TheVariants.{Quota}
-use Rattle.fsrm_model.specs.DueActions.{due, quota_acts, ready_acts}
-use Rattle.fsrm_model.specs.Exceptions.{left_with}
-use Rattle.fsrm_model.specs.Limits.{most_entries}
-use Rattle.fsrm_model.specs.Quota.{counts, peaked, peaks}
-use Rattle.fsrm_model.specs.Reached.{crossed, reached}
-use Rattle.fsrm_model.specs.Runs.{run_quota, last_entries, entry_of, ran}
-use Rattle.fsrm_model.specs.Tree.{usage}
+use Rattle.fsrm_model.specs.objects.DueActions.{due, quota_acts, ready_acts}
+use Rattle.fsrm_model.specs.meaning.Exceptions.{left_with}
+use Rattle.fsrm_model.specs.values.Limits.{most_entries}
+use Rattle.fsrm_model.specs.objects.Quota.{counts, peaked, peaks}
+use Rattle.fsrm_model.specs.objects.Reached.{crossed, reached}
+use Rattle.fsrm_model.specs.objects.Runs.{run_quota, last_entries, entry_of, ran}
+use Rattle.fsrm_model.specs.nodes.Tree.{usage}
 use Rattle.fsrm_model.proofs.thresholds.ActLaws.{IsOfQuota}
 use Rattle.fsrm_model.proofs.thresholds.ReachedLaws.{reached_peaked}
 use Rattle.fsrm_model.proofs.thresholds.UnrunLaws.{screens_unrun}

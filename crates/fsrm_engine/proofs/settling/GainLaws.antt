@@ -10,10 +10,10 @@ use Rattle.fsrm_model.specs.declared.command.Subject.TheVariants.{Quota}
 use Rattle.fsrm_model.specs.declared.row.NodeRow.{NodeRow}
 use Rattle.fsrm_model.specs.declared.row.QuotaRow.{QuotaRow}
 use Rattle.fsrm_model.specs.declared.row.Threshold.{Threshold}
-use Rattle.fsrm_model.specs.DueActions.{ready_acts}
-use Rattle.fsrm_model.specs.Reached.{reaches}
-use Rattle.fsrm_model.specs.Thresholds.{percent_of}
-use Rattle.fsrm_model.specs.Tree.{is_under}
+use Rattle.fsrm_model.specs.objects.DueActions.{ready_acts}
+use Rattle.fsrm_model.specs.objects.Reached.{reaches}
+use Rattle.fsrm_model.specs.objects.Thresholds.{percent_of}
+use Rattle.fsrm_model.specs.nodes.Tree.{is_under}
 use Rattle.fsrm_model.proofs.thresholds.SettleLaws.{no_acts}
 use Rattle.quota_usage.specs.declared.change.Change.{Change}
 use Rattle.quota_usage.specs.declared.change.Counter.{Counter}

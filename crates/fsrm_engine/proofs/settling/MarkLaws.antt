@@ -12,9 +12,9 @@ use Rattle.fsrm_model.specs.declared.row.Capacity.{Capacity}
 use Rattle.fsrm_model.specs.declared.row.NodeRow.{NodeRow}
 use Rattle.fsrm_model.specs.declared.row.QuotaRow.{QuotaRow}
 use Rattle.fsrm_model.specs.declared.row.ScreenRow.{ScreenRow}
-use Rattle.fsrm_model.specs.Acts.{has_act, of_quotas, of_screens}
-use Rattle.fsrm_model.specs.Quota.{counts, peaked}
-use Rattle.fsrm_model.specs.Tree.{usage}
+use Rattle.fsrm_model.specs.objects.Acts.{has_act, of_quotas, of_screens}
+use Rattle.fsrm_model.specs.objects.Quota.{counts, peaked}
+use Rattle.fsrm_model.specs.nodes.Tree.{usage}
 use Rattle.fsrm_model.proofs.thresholds.ActLaws.{IsOfQuota}
 use Rattle.thresholds.specs.Marked.{Marked, act_at, act_in, all_waiting, are_screen_acts, are_there, quota_place, screen_act_at, screen_waiting, waiting}
 use Rattle.fsrm_engine.specs.declared.parts.Parts.{Parts}

@@ -11,7 +11,7 @@ use Rattle.fsrm_base.proofs.NumberLaws.{in_with, in_without, set_with, set_witho
 use Rattle.fsrm_base.proofs.SortedRows.{row_at, there}
 use Rattle.fsrm_base.proofs.TestLaws.{clash, eq_is, eq_test, ge_is, is_apart, lt_is}
 use Rattle.fsrm_model.specs.declared.row.QuotaRow.{QuotaRow}
-use Rattle.fsrm_model.specs.Quota.{folder_of}
+use Rattle.fsrm_model.specs.objects.Quota.{folder_of}
 use Rattle.number_set.specs.Numbers.{Numbers}
 use Rattle.thresholds.proofs.Decoded.{earlier}
 use Rattle.fsrm_engine.specs.Crossing.{Drops, Notes}

@@ -18,9 +18,9 @@ use Rattle.fsrm_model.specs.declared.row.Action.{Action}
 use Rattle.fsrm_model.specs.declared.row.QuotaRow.{QuotaRow}
 use Rattle.fsrm_model.specs.declared.row.Rows.{Rows}
 use Rattle.fsrm_model.specs.declared.row.Threshold.{Threshold}
-use Rattle.fsrm_model.specs.Acts.{folder_in, percent_in, same_subject, has_act, actions_of, IsAct, act_before, are_in_order}
-use Rattle.fsrm_model.specs.Quota.{folder_of, quota_of}
-use Rattle.fsrm_model.specs.Thresholds.{percent_of, actions_at}
+use Rattle.fsrm_model.specs.objects.Acts.{folder_in, percent_in, same_subject, has_act, actions_of, IsAct, act_before, are_in_order}
+use Rattle.fsrm_model.specs.objects.Quota.{folder_of, quota_of}
+use Rattle.fsrm_model.specs.objects.Thresholds.{percent_of, actions_at}
 use Rattle.thresholds.specs.Marked.{act_at, waiting, quota_place, threshold_place}
 use Rattle.thresholds.specs.Settled.{are_orderly}
 use Rattle.thresholds.proofs.Decoded.{Found, found, found_act, found_is}

@@ -6,11 +6,11 @@ use Rattle.fsrm_base.proofs.Members.{all_found, all_pass}
 use Rattle.fsrm_base.proofs.TestLaws.{both, both_true, le_test}
 use Rattle.fsrm_model.specs.declared.row.NodeRow.{NodeRow}
 use Rattle.fsrm_model.specs.declared.row.QuotaRow.{QuotaRow}
-use Rattle.fsrm_model.specs.Limits.{most_quotas}
-use Rattle.fsrm_model.specs.Quota.{folder_of}
-use Rattle.fsrm_model.specs.Raises.{are_ascending}
-use Rattle.fsrm_model.specs.Thresholds.{percent_of, are_too_many, is_threshold}
-use Rattle.fsrm_model.specs.Valid.{AreQuotas}
+use Rattle.fsrm_model.specs.values.Limits.{most_quotas}
+use Rattle.fsrm_model.specs.objects.Quota.{folder_of}
+use Rattle.fsrm_model.specs.meaning.Raises.{are_ascending}
+use Rattle.fsrm_model.specs.objects.Thresholds.{percent_of, are_too_many, is_threshold}
+use Rattle.fsrm_model.specs.store.Valid.{AreQuotas}
 use Rattle.thresholds.specs.Settled.{are_orderly, has_orderly_lists}
 use Rattle.thresholds.proofs.OrderLaws.{orderly}
 

@@ -13,10 +13,10 @@ use Rattle.fsrm_model.specs.declared.command.Outcome.TheVariants.{Refused}
 use Rattle.fsrm_model.specs.declared.command.Subject.{Subject}
 use Rattle.fsrm_model.specs.declared.row.ActRow.{ActRow}
 use Rattle.fsrm_model.specs.declared.row.QuotaRow.{QuotaRow}
-use Rattle.fsrm_model.specs.Acts.{has_act}
-use Rattle.fsrm_model.specs.Limits.{most_entries}
-use Rattle.fsrm_model.specs.Quota.{folder_of, deepest}
-use Rattle.fsrm_model.specs.Runs.{last_entries}
+use Rattle.fsrm_model.specs.objects.Acts.{has_act}
+use Rattle.fsrm_model.specs.values.Limits.{most_entries}
+use Rattle.fsrm_model.specs.objects.Quota.{folder_of, deepest}
+use Rattle.fsrm_model.specs.objects.Runs.{last_entries}
 use Rattle.fsrm_model.proofs.thresholds.RunLaws.{short_log}
 use Rattle.fsrm_objects.specs.Tables.{Tables}
 use Rattle.quota_usage.specs.declared.change.Change.{Change}

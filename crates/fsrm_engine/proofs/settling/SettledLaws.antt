@@ -12,11 +12,11 @@ use Rattle.fsrm_base.proofs.SortedRows.{row_at, there}
 use Rattle.fsrm_base.proofs.TestLaws.{both, clash, eq_same, eq_test, is_apart}
 use Rattle.fsrm_model.specs.declared.command.Act.{Act}
 use Rattle.fsrm_model.specs.declared.row.QuotaRow.{QuotaRow}
-use Rattle.fsrm_model.specs.DueActions.{quota_acts, is_ready_at}
-use Rattle.fsrm_model.specs.Limits.{most_entries}
-use Rattle.fsrm_model.specs.Quota.{folder_of}
-use Rattle.fsrm_model.specs.Runs.{run_quota}
-use Rattle.fsrm_model.specs.Thresholds.{actions_at, percent_of}
+use Rattle.fsrm_model.specs.objects.DueActions.{quota_acts, is_ready_at}
+use Rattle.fsrm_model.specs.values.Limits.{most_entries}
+use Rattle.fsrm_model.specs.objects.Quota.{folder_of}
+use Rattle.fsrm_model.specs.objects.Runs.{run_quota}
+use Rattle.fsrm_model.specs.objects.Thresholds.{actions_at, percent_of}
 use Rattle.fsrm_model.proofs.thresholds.DueLaws.{quota_run}
 use Rattle.fsrm_model.proofs.thresholds.RunLaws.{unrun_quota}
 use Rattle.fsrm_model.proofs.thresholds.SettleLaws.{same_runs}

@@ -8,10 +8,10 @@ use Rattle.fsrm_base.proofs.TestLaws.{clash, eq_same}
 use Rattle.fsrm_model.specs.declared.row.NodeRow.{NodeRow}
 use Rattle.fsrm_model.specs.declared.row.QuotaRow.{QuotaRow}
 use Rattle.fsrm_model.specs.declared.row.QuotaState.TheVariants.{Rebuilding}
-use Rattle.fsrm_model.specs.Quota.{folder_of, counts, is_limit}
-use Rattle.fsrm_model.specs.QuotaStates.{in_state}
-use Rattle.fsrm_model.specs.Thresholds.{are_thresholds}
-use Rattle.fsrm_model.specs.Tree.{usage}
+use Rattle.fsrm_model.specs.objects.Quota.{folder_of, counts, is_limit}
+use Rattle.fsrm_model.specs.objects.QuotaStates.{in_state}
+use Rattle.fsrm_model.specs.objects.Thresholds.{are_thresholds}
+use Rattle.fsrm_model.specs.nodes.Tree.{usage}
 use Rattle.fsrm_engine.specs.declared.parts.Parts.{Parts}
 use Rattle.fsrm_engine.specs.Machine.{Turned, rows_of}
 use Rattle.fsrm_engine.proofs.settling.CalmLaws.{calm_but, uncounted_reached, unused_reached}

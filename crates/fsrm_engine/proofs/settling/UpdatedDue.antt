@@ -13,12 +13,12 @@ use Rattle.fsrm_model.specs.declared.command.Act.{Act}
 use Rattle.fsrm_model.specs.declared.command.Update.{Update}
 use Rattle.fsrm_model.specs.declared.row.QuotaRow.{QuotaRow}
 use Rattle.fsrm_model.specs.declared.row.TemplateRow.{TemplateRow}
-use Rattle.fsrm_model.specs.DueActions.{quota_acts}
-use Rattle.fsrm_model.specs.Limits.{most_entries}
-use Rattle.fsrm_model.specs.Quota.{folder_of, counts}
-use Rattle.fsrm_model.specs.Reached.{crossed, has_reached, reached}
-use Rattle.fsrm_model.specs.Runs.{run_quota}
-use Rattle.fsrm_model.specs.Templates.{as_template, is_reached, updated}
+use Rattle.fsrm_model.specs.objects.DueActions.{quota_acts}
+use Rattle.fsrm_model.specs.values.Limits.{most_entries}
+use Rattle.fsrm_model.specs.objects.Quota.{folder_of, counts}
+use Rattle.fsrm_model.specs.objects.Reached.{crossed, has_reached, reached}
+use Rattle.fsrm_model.specs.objects.Runs.{run_quota}
+use Rattle.fsrm_model.specs.objects.Templates.{as_template, is_reached, updated}
 use Rattle.fsrm_model.proofs.templates.UpdateDue.{IsLeft, due_mapped}
 use Rattle.fsrm_model.proofs.thresholds.RunLaws.{unrun_quota}
 use Rattle.fsrm_objects.specs.Tables.{Tables}

@@ -11,11 +11,11 @@ use Rattle.fsrm_model.specs.declared.row.ActRow.{ActRow}
 use Rattle.fsrm_model.specs.declared.row.Action.{Action}
 use Rattle.fsrm_model.specs.declared.row.Rows.{Rows}
 use Rattle.fsrm_model.specs.declared.row.ScreenRow.{ScreenRow}
-use Rattle.fsrm_model.specs.Acts.{actions_of, IsAct}
-use Rattle.fsrm_model.specs.ActText.{text_of}
-use Rattle.fsrm_model.specs.DueActions.{act_of}
-use Rattle.fsrm_model.specs.Screens.{screen_folder}
-use Rattle.fsrm_model.specs.Valid.{IsValid}
+use Rattle.fsrm_model.specs.objects.Acts.{actions_of, IsAct}
+use Rattle.fsrm_model.specs.texts.ActText.{text_of}
+use Rattle.fsrm_model.specs.objects.DueActions.{act_of}
+use Rattle.fsrm_model.specs.objects.Screens.{screen_folder}
+use Rattle.fsrm_model.specs.store.Valid.{IsValid}
 use Rattle.fsrm_model.proofs.thresholds.ActLaws.{all-append}
 use Rattle.thresholds.specs.Marked.{Marked, all_waiting, are_screen_acts, are_there, screen_act_at, screen_waiting, waiting}
 use Rattle.fsrm_engine.specs.declared.parts.Parts.{Parts}

@@ -12,12 +12,12 @@ use Rattle.fsrm_model.specs.declared.row.QuotaRow.{QuotaRow}
 use Rattle.fsrm_model.specs.declared.row.QuotaState.{QuotaState}
 use Rattle.fsrm_model.specs.declared.row.QuotaState.TheVariants.{Complete, Disabled, Rebuilding, Incomplete}
 use Rattle.fsrm_model.specs.declared.row.Rows.{Rows}
-use Rattle.fsrm_model.specs.Limits.{latest_moment}
-use Rattle.fsrm_model.specs.Quota.{counts, folder_of, is_complete}
-use Rattle.fsrm_model.specs.QuotaStates.{followed, state_of, with_state}
-use Rattle.fsrm_model.specs.Replays.{completed, finish, finish_acts, finished, is_unfinished}
-use Rattle.fsrm_model.specs.Step.{Stepped, unacted}
-use Rattle.fsrm_model.specs.Valid.{AreQuotas, IsValid}
+use Rattle.fsrm_model.specs.values.Limits.{latest_moment}
+use Rattle.fsrm_model.specs.objects.Quota.{counts, folder_of, is_complete}
+use Rattle.fsrm_model.specs.objects.QuotaStates.{followed, state_of, with_state}
+use Rattle.fsrm_model.specs.store.Replays.{completed, finish, finish_acts, finished, is_unfinished}
+use Rattle.fsrm_model.specs.commands.Step.{Stepped, unacted}
+use Rattle.fsrm_model.specs.store.Valid.{AreQuotas, IsValid}
 use Rattle.fsrm_model.proofs.commands.ScanCommands.{state_followed}
 use Rattle.fsrm_model.proofs.commands.StepActs.{AreActs, lasted_acts}
 use Rattle.fsrm_model.proofs.journal.FinishLaws.{finish_valid}

@@ -2,8 +2,8 @@
 use Rattle.std.proofs.Common.{◌≡◌, [], ◌++◌, refl, ap, sym, ◌∙◌, subst}
 use Rattle.std.specs.Prelude.{map}
 use Rattle.fsrm_model.specs.declared.row.Rows.{Rows}
-use Rattle.fsrm_model.specs.Lasting.{flagged_quota, lasting}
-use Rattle.fsrm_model.specs.Valid.{IsValid}
+use Rattle.fsrm_model.specs.store.Lasting.{flagged_quota, lasting}
+use Rattle.fsrm_model.specs.store.Valid.{IsValid}
 use Rattle.fsrm_model.proofs.journal.FinishLaws.{lasting_valid}
 use Rattle.thresholds.specs.Marked.{screen_waiting}
 use Rattle.rescan.specs.Frontiers.{idle}

@@ -9,19 +9,19 @@ use Rattle.fsrm_model.specs.declared.command.Refusal.{Refusal}
 use Rattle.fsrm_model.specs.declared.command.Refusal.TheVariants.{QuotaExceeded, ScreenBlocked}
 use Rattle.fsrm_model.specs.declared.row.Capacity.{Capacity}
 use Rattle.fsrm_model.specs.declared.row.NodeRow.{NodeRow}
-use Rattle.fsrm_model.specs.Limits.{longest_file}
-use Rattle.fsrm_model.specs.FileOps.{target}
+use Rattle.fsrm_model.specs.values.Limits.{longest_file}
+use Rattle.fsrm_model.specs.nodes.FileOps.{target}
 use Rattle.fsrm_base.specs.Keyed.{has_row}
-use Rattle.fsrm_model.specs.Leads.{is_root, leads, leads_to_folder}
-use Rattle.fsrm_model.specs.Text.{is_bare}
-use Rattle.fsrm_model.specs.Tree.{number, is_folder, child_number, chain, path_of, resolve, folder_part, last_name, owner_of, parent_of}
-use Rattle.fsrm_model.specs.Valid.{IsVolume}
+use Rattle.fsrm_model.specs.nodes.Leads.{is_root, leads, leads_to_folder}
+use Rattle.fsrm_model.specs.texts.Text.{is_bare}
+use Rattle.fsrm_model.specs.nodes.Tree.{number, is_folder, child_number, chain, path_of, resolve, folder_part, last_name, owner_of, parent_of}
+use Rattle.fsrm_model.specs.store.Valid.{IsVolume}
 use Rattle.fsrm_base.proofs.Look.{found_key}
 use Rattle.fsrm_base.proofs.TestLaws.{not_true, eq_is, suc_apart}
 use Rattle.fsrm_model.proofs.nodes.Walks.{path_root}
 use Rattle.fsrm_model.proofs.nodes.Resolves.{resolve_root, resolve_child, resolved, some_name}
 use Rattle.fsrm_model.proofs.nodes.Keeps.{found_folder}
-use Rattle.fsrm_model.specs.Name.{is_name}
+use Rattle.fsrm_model.specs.values.Name.{is_name}
 use Rattle.node_table.specs.declared.view.NodeView.{NodeView}
 use Rattle.volume_tree.specs.Volume.{Shows}
 use Rattle.fsrm_engine.specs.Places.{IsPlace, IsFile, IsFolder, IsRefusedPlace}

@@ -10,16 +10,16 @@ use Rattle.fsrm_model.specs.declared.row.QuotaRow.{QuotaRow}
 use Rattle.fsrm_model.specs.declared.row.QuotaState.{QuotaState}
 use Rattle.fsrm_model.specs.declared.row.QuotaState.TheVariants.{Complete, Disabled, Rebuilding, Incomplete}
 use Rattle.fsrm_model.specs.declared.row.Rows.{Rows}
-use Rattle.fsrm_model.specs.Check.{◌when◌, first}
+use Rattle.fsrm_model.specs.commands.Check.{◌when◌, first}
 use Rattle.fsrm_base.specs.Keyed.{has_row, row_of}
 use Rattle.fsrm_base.specs.Numbers.{without_number}
-use Rattle.fsrm_model.specs.Quota.{folder_of, counts, is_complete, peaked}
-use Rattle.fsrm_model.specs.QuotaStates.{followed, is_rebuilding, in_state, queued, head, same_head, scan_begun, with_state}
-use Rattle.fsrm_model.specs.Replays.{completed}
-use Rattle.fsrm_model.specs.Scan.{visits}
-use Rattle.fsrm_model.specs.ScanWork.{step_work}
-use Rattle.fsrm_model.specs.Tree.{usage}
-use Rattle.fsrm_model.specs.ValidScans.{IsQueue}
+use Rattle.fsrm_model.specs.objects.Quota.{folder_of, counts, is_complete, peaked}
+use Rattle.fsrm_model.specs.objects.QuotaStates.{followed, is_rebuilding, in_state, queued, head, same_head, scan_begun, with_state}
+use Rattle.fsrm_model.specs.store.Replays.{completed}
+use Rattle.fsrm_model.specs.objects.Scan.{visits}
+use Rattle.fsrm_model.specs.commands.ScanWork.{step_work}
+use Rattle.fsrm_model.specs.nodes.Tree.{usage}
+use Rattle.fsrm_model.specs.store.ValidScans.{IsQueue}
 use Rattle.fsrm_base.proofs.TestLaws.{suc_apart}
 use Rattle.fsrm_objects.specs.Tables.{Tables}
 use Rattle.quota_usage.specs.Counters.{used_in}

@@ -18,17 +18,17 @@ use Rattle.fsrm_model.specs.declared.row.GroupRow.{GroupRow}
 use Rattle.fsrm_model.specs.declared.row.NodeRow.{NodeRow}
 use Rattle.fsrm_model.specs.declared.row.QuotaRow.{QuotaRow}
 use Rattle.fsrm_model.specs.declared.row.Rows.{Rows}
-use Rattle.fsrm_model.specs.Check.{◌when◌, first}
-use Rattle.fsrm_model.specs.Cost.{cost, deed_cost}
-use Rattle.fsrm_model.specs.DueActions.{due as due_acts, due_refused}
-use Rattle.fsrm_model.specs.Fresh.{rows_of_nodes}
-use Rattle.fsrm_model.specs.Limits.{most_entries}
-use Rattle.fsrm_model.specs.Quota.{peaked, peaks}
-use Rattle.fsrm_model.specs.QuotaStates.{followed, same_head, scan_begun}
-use Rattle.fsrm_model.specs.Runs.{ran}
-use Rattle.fsrm_model.specs.Step.{Acted, Stepped, work, concluded, decided, accepted, acted, lasted, left_by, ran_if_any, refused_leaving, screened, unacted, unlasting}
-use Rattle.fsrm_model.specs.Text.{is_bare}
-use Rattle.fsrm_model.specs.Work.{Work}
+use Rattle.fsrm_model.specs.commands.Check.{◌when◌, first}
+use Rattle.fsrm_model.specs.commands.Cost.{cost, deed_cost}
+use Rattle.fsrm_model.specs.objects.DueActions.{due as due_acts, due_refused}
+use Rattle.fsrm_model.specs.nodes.Fresh.{rows_of_nodes}
+use Rattle.fsrm_model.specs.values.Limits.{most_entries}
+use Rattle.fsrm_model.specs.objects.Quota.{peaked, peaks}
+use Rattle.fsrm_model.specs.objects.QuotaStates.{followed, same_head, scan_begun}
+use Rattle.fsrm_model.specs.objects.Runs.{ran}
+use Rattle.fsrm_model.specs.commands.Step.{Acted, Stepped, work, concluded, decided, accepted, acted, lasted, left_by, ran_if_any, refused_leaving, screened, unacted, unlasting}
+use Rattle.fsrm_model.specs.texts.Text.{is_bare}
+use Rattle.fsrm_model.specs.commands.Work.{Work}
 use Rattle.fsrm_model.proofs.commands.OrderlyLaws.{left_is, acts_left, itself_same}
 use Rattle.fsrm_model.proofs.thresholds.ActLaws.{IsOfQuota, of_quota_due, of_quota_refused}
 use Rattle.fsrm_base.proofs.TestLaws.{eq_same}

@@ -10,11 +10,11 @@ use Rattle.fsrm_model.specs.declared.command.Command.{Command}
 use Rattle.fsrm_model.specs.declared.command.Deed.{Deed}
 use Rattle.fsrm_model.specs.declared.row.Capacity.{Capacity}
 use Rattle.fsrm_model.specs.declared.row.Rows.{Rows}
-use Rattle.fsrm_model.specs.Acts.{IsAct, is_of_quota, of_quotas, of_screens}
-use Rattle.fsrm_model.specs.Cost.{cost, deed_cost}
-use Rattle.fsrm_model.specs.Named.{IsNamed}
-use Rattle.fsrm_model.specs.Step.{Stepped, step}
-use Rattle.fsrm_model.specs.Valid.{AreQuotas, IsValid}
+use Rattle.fsrm_model.specs.objects.Acts.{IsAct, is_of_quota, of_quotas, of_screens}
+use Rattle.fsrm_model.specs.commands.Cost.{cost, deed_cost}
+use Rattle.fsrm_model.specs.meaning.Named.{IsNamed}
+use Rattle.fsrm_model.specs.commands.Step.{Stepped, step}
+use Rattle.fsrm_model.specs.store.Valid.{AreQuotas, IsValid}
 use Rattle.fsrm_model.proofs.commands.EachCommand.{named}
 use Rattle.fsrm_model.proofs.commands.StepActs.{AreActs}
 use Rattle.fsrm_model.proofs.thresholds.DueLaws.{also}

@@ -9,12 +9,12 @@ use Rattle.fsrm_model.specs.declared.row.QuotaRow.{QuotaRow}
 use Rattle.fsrm_model.specs.declared.row.QuotaState.{QuotaState}
 use Rattle.fsrm_model.specs.declared.row.QuotaState.TheVariants.{Complete, Disabled, Rebuilding, Incomplete}
 use Rattle.fsrm_base.specs.Keyed.{row_of, has_row, is_ascending, with_row, with_change, without_row}
-use Rattle.fsrm_model.specs.Limits.{latest_moment, most_quotas}
-use Rattle.fsrm_model.specs.Quota.{folder_of, counts, is_complete, is_limit, peaked}
-use Rattle.fsrm_model.specs.QuotaStates.{in_state}
-use Rattle.fsrm_model.specs.Thresholds.{are_thresholds}
-use Rattle.fsrm_model.specs.Tree.{is_folder, usage}
-use Rattle.fsrm_model.specs.Valid.{AreQuotas, is_moment}
+use Rattle.fsrm_model.specs.values.Limits.{latest_moment, most_quotas}
+use Rattle.fsrm_model.specs.objects.Quota.{folder_of, counts, is_complete, is_limit, peaked}
+use Rattle.fsrm_model.specs.objects.QuotaStates.{in_state}
+use Rattle.fsrm_model.specs.objects.Thresholds.{are_thresholds}
+use Rattle.fsrm_model.specs.nodes.Tree.{is_folder, usage}
+use Rattle.fsrm_model.specs.store.Valid.{AreQuotas, is_moment}
 use Rattle.fsrm_base.proofs.EditedRows.{absent_later, ascending_tail, change_absent, without_absent}
 use Rattle.fsrm_base.proofs.Look.{FoundRow, found_key, found_has, has_found, changed_found, new_found, is_some-find}
 use Rattle.fsrm_base.proofs.Order.{ascending-filter}

@@ -7,8 +7,8 @@ use Rattle.std.specs.Prelude.{drop, slice_get}
 use Rattle.fsrm_base.specs.Keyed.{is_ascending, with_row}
 use Rattle.fsrm_base.proofs.Order.{parts}
 use Rattle.fsrm_base.proofs.TestLaws.{both_true, lt_is}
-use Rattle.fsrm_model.specs.Limits.{most_entries}
-use Rattle.fsrm_model.specs.Runs.{last_entries}
+use Rattle.fsrm_model.specs.values.Limits.{most_entries}
+use Rattle.fsrm_model.specs.objects.Runs.{last_entries}
 
 -- ---- rows by keys
 -- the last of ascending rows is after each other

@@ -11,10 +11,10 @@ use Rattle.fsrm_model.specs.declared.row.NodeRow.{NodeRow}
 use Rattle.fsrm_model.specs.declared.row.QuotaRow.{QuotaRow}
 use Rattle.fsrm_model.specs.declared.row.QuotaState.{QuotaState}
 use Rattle.fsrm_model.specs.declared.row.QuotaState.TheVariants.{Complete, Disabled, Rebuilding, Incomplete}
-use Rattle.fsrm_model.specs.Lasting.{flagged, flagged_quota}
-use Rattle.fsrm_model.specs.Quota.{counts, folder_of, is_complete}
-use Rattle.fsrm_model.specs.QuotaStates.{in_state, is_rebuilding}
-use Rattle.fsrm_model.specs.Tree.{usage}
+use Rattle.fsrm_model.specs.store.Lasting.{flagged, flagged_quota}
+use Rattle.fsrm_model.specs.objects.Quota.{counts, folder_of, is_complete}
+use Rattle.fsrm_model.specs.objects.QuotaStates.{in_state, is_rebuilding}
+use Rattle.fsrm_model.specs.nodes.Tree.{usage}
 use Rattle.fsrm_model.proofs.valid.QuotasKept.{quotas-map}
 use Rattle.quota_usage.specs.declared.change.Counter.{Counter}
 use Rattle.thresholds.specs.Marked.{act_in}

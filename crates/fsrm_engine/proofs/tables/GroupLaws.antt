@@ -24,14 +24,14 @@ use Rattle.fsrm_model.specs.declared.command.Outcome.TheVariants.{Done}
 use Rattle.fsrm_model.specs.declared.command.Refusal.{Refusal}
 use Rattle.fsrm_model.specs.declared.command.Refusal.TheVariants as refusal
 use Rattle.fsrm_model.specs.declared.row.GroupRow.{GroupRow}
-use Rattle.fsrm_model.specs.Check.{texts_full}
-use Rattle.fsrm_model.specs.GroupWork.{is_group_named, is_used}
-use Rattle.fsrm_model.specs.Limits.{most_groups, most_text_bytes}
-use Rattle.fsrm_model.specs.Patterns.{are_apart, group_number, has_name, is_group, new_group, number_named, regrouped, with_group, with_patterns, without_group}
-use Rattle.fsrm_model.specs.Quota.{peaked}
-use Rattle.fsrm_model.specs.QuotaStates.{followed}
-use Rattle.fsrm_model.specs.Text.{is_bare}
-use Rattle.fsrm_model.specs.Texts.{group_bytes, object_texts}
+use Rattle.fsrm_model.specs.commands.Check.{texts_full}
+use Rattle.fsrm_model.specs.commands.GroupWork.{is_group_named, is_used}
+use Rattle.fsrm_model.specs.values.Limits.{most_groups, most_text_bytes}
+use Rattle.fsrm_model.specs.values.Patterns.{are_apart, group_number, has_name, is_group, new_group, number_named, regrouped, with_group, with_patterns, without_group}
+use Rattle.fsrm_model.specs.objects.Quota.{peaked}
+use Rattle.fsrm_model.specs.objects.QuotaStates.{followed}
+use Rattle.fsrm_model.specs.texts.Text.{is_bare}
+use Rattle.fsrm_model.specs.values.Texts.{group_bytes, object_texts}
 use Rattle.fsrm_objects.specs.Tables.{Tables, texts_in}
 use Rattle.templates.specs.Held.{texts_in as template_texts}
 use Rattle.fsrm_engine.specs.declared.parts.Parts.{Parts}

@@ -16,7 +16,7 @@ use Rattle.fsrm_base.proofs.TestLaws.{eq_same}
 use Rattle.fsrm_model.specs.declared.command.Added.{Added}
 use Rattle.fsrm_model.specs.declared.row.Action.{Action}
 use Rattle.fsrm_model.specs.declared.row.Threshold.{Threshold}
-use Rattle.fsrm_model.specs.Thresholds.{percent_of, with_action, with_notice, with_threshold, without_thresholds}
+use Rattle.fsrm_model.specs.objects.Thresholds.{percent_of, with_action, with_notice, with_threshold, without_thresholds}
 
 -- ---- one step more
 pub one_more : {A : Type 0} (step : List Threshold → A → List Threshold) (old now new : List Threshold) (items : List A) (k : ℕ) (x : A) → slice_get items k ≡ Some x → now ≡ fold step old (take k items) → new ≡ step now x → new ≡ fold step old (take (k + 1) items)

@@ -13,12 +13,12 @@ use Rattle.fsrm_model.specs.declared.row.QuotaRow.{QuotaRow}
 use Rattle.fsrm_model.specs.declared.row.QuotaState.{QuotaState}
 use Rattle.fsrm_model.specs.declared.row.QuotaState.TheVariants.{Disabled}
 use Rattle.fsrm_model.specs.declared.row.Threshold.{Threshold}
-use Rattle.fsrm_model.specs.Quota.{folder_of, counts, is_complete}
-use Rattle.fsrm_model.specs.QuotaStates.{in_state, queued, state_after, with_state}
-use Rattle.fsrm_model.specs.QuotaWork.{changed_by}
-use Rattle.fsrm_model.specs.Thresholds.{are_thresholds, changed_thresholds, is_threshold, may_be_removed, percent_of}
-use Rattle.fsrm_model.specs.Tree.{is_folder, usage}
-use Rattle.fsrm_model.specs.Valid.{IsVolume}
+use Rattle.fsrm_model.specs.objects.Quota.{folder_of, counts, is_complete}
+use Rattle.fsrm_model.specs.objects.QuotaStates.{in_state, queued, state_after, with_state}
+use Rattle.fsrm_model.specs.commands.QuotaWork.{changed_by}
+use Rattle.fsrm_model.specs.objects.Thresholds.{are_thresholds, changed_thresholds, is_threshold, may_be_removed, percent_of}
+use Rattle.fsrm_model.specs.nodes.Tree.{is_folder, usage}
+use Rattle.fsrm_model.specs.store.Valid.{IsVolume}
 use Rattle.fsrm_model.proofs.commands.ValueParts.{AreNewThresholds}
 use Rattle.fsrm_model.proofs.thresholds.ThresholdLaws.{changed_ascending, changed_each}
 use Rattle.fsrm_objects.specs.Tables.{Tables, other_fault}

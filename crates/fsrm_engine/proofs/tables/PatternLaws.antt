@@ -5,8 +5,8 @@ use Rattle.std.specs.List.{list_all}
 use Rattle.std.specs.Option.{option_map_or}
 use Rattle.file_groups.specs.Kept.{AreMembers, AreNonMembers}
 use Rattle.fsrm_base.proofs.TestLaws.{both, le_is, lt_is}
-use Rattle.fsrm_model.specs.Limits.{most_patterns}
-use Rattle.fsrm_model.specs.Patterns.{is_pattern, are_members, are_non_members}
+use Rattle.fsrm_model.specs.values.Limits.{most_patterns}
+use Rattle.fsrm_model.specs.values.Patterns.{is_pattern, are_members, are_non_members}
 
 -- each of them is a pattern
 pub members_legal : (texts : List (List ℕ)) → are_members texts ≡ true → list_all is_pattern texts ≡ true

@@ -4,10 +4,10 @@ use Rattle.fsrm_base.specs.Keyed.{has_row, without_row}
 use Rattle.fsrm_base.specs.Numbers.{is_in, each_once}
 use Rattle.fsrm_base.proofs.Look.{has_row-without_other}
 use Rattle.fsrm_base.proofs.TestLaws.{both, both_true, clash, eq_is, eq_same, is_false, is_or, not_true, or_later}
-use Rattle.fsrm_model.specs.Limits.{most_quotas}
-use Rattle.fsrm_model.specs.Quota.{folder_of}
-use Rattle.fsrm_model.specs.Valid.{AreQuotas}
-use Rattle.fsrm_model.specs.ValidScans.{IsQueue}
+use Rattle.fsrm_model.specs.values.Limits.{most_quotas}
+use Rattle.fsrm_model.specs.objects.Quota.{folder_of}
+use Rattle.fsrm_model.specs.store.Valid.{AreQuotas}
+use Rattle.fsrm_model.specs.store.ValidScans.{IsQueue}
 use Rattle.fsrm_model.specs.declared.row.NodeRow.{NodeRow}
 use Rattle.fsrm_model.specs.declared.row.QuotaRow.{QuotaRow}
 use Rattle.fsrm_engine.proofs.tables.CountingLaws.{fewer}

@@ -10,19 +10,19 @@ use Rattle.fsrm_model.specs.declared.row.Capacity.{Capacity}
 use Rattle.fsrm_model.specs.declared.row.NodeRow.{NodeRow}
 use Rattle.fsrm_model.specs.declared.row.QuotaRow.{QuotaRow}
 use Rattle.fsrm_model.specs.declared.row.Rows.{Rows}
-use Rattle.fsrm_model.specs.Check.{◌when◌, first}
-use Rattle.fsrm_model.specs.FileOps.{target}
+use Rattle.fsrm_model.specs.commands.Check.{◌when◌, first}
+use Rattle.fsrm_model.specs.nodes.FileOps.{target}
 use Rattle.fsrm_base.specs.Keyed.{row_of, with_change}
-use Rattle.fsrm_model.specs.Leads.{leads_to_folder}
-use Rattle.fsrm_model.specs.Limits.{latest_moment}
-use Rattle.fsrm_model.specs.Quota.{folder_of, counts, is_limit}
-use Rattle.fsrm_model.specs.QuotaWork.{quota_checks, reset}
-use Rattle.fsrm_model.specs.QuotaStates.{scan_begun}
-use Rattle.fsrm_model.specs.Text.{is_bare}
-use Rattle.fsrm_model.specs.Thresholds.{are_thresholds}
-use Rattle.fsrm_model.specs.Tree.{usage}
-use Rattle.fsrm_model.specs.Valid.{is_moment}
-use Rattle.fsrm_model.specs.Work.{asks}
+use Rattle.fsrm_model.specs.nodes.Leads.{leads_to_folder}
+use Rattle.fsrm_model.specs.values.Limits.{latest_moment}
+use Rattle.fsrm_model.specs.objects.Quota.{folder_of, counts, is_limit}
+use Rattle.fsrm_model.specs.commands.QuotaWork.{quota_checks, reset}
+use Rattle.fsrm_model.specs.objects.QuotaStates.{scan_begun}
+use Rattle.fsrm_model.specs.texts.Text.{is_bare}
+use Rattle.fsrm_model.specs.objects.Thresholds.{are_thresholds}
+use Rattle.fsrm_model.specs.nodes.Tree.{usage}
+use Rattle.fsrm_model.specs.store.Valid.{is_moment}
+use Rattle.fsrm_model.specs.commands.Work.{asks}
 use Rattle.fsrm_base.proofs.Look.{found_key, changed_key}
 use Rattle.fsrm_objects.specs.Tables.{Tables, peaked_at}
 use Rattle.quota_usage.specs.declared.change.Counter.{Counter}

@@ -7,7 +7,7 @@ use Rattle.std.specs.Option.{option_map_or}
 use Rattle.fsrm_model.specs.declared.row.QuotaRow.{QuotaRow}
 use Rattle.std.proofs.lemmas.List.{length-map, map-append, append-nil}
 use Rattle.fsrm_base.specs.Keyed.{row_of, has_row, is_ascending, with_change}
-use Rattle.fsrm_model.specs.Quota.{folder_of}
+use Rattle.fsrm_model.specs.objects.Quota.{folder_of}
 use Rattle.fsrm_model.specs.declared.row.NodeRow.{NodeRow}
 use Rattle.fsrm_base.proofs.EditedRows.{change_absent, absent_later, ascending_tail}
 use Rattle.fsrm_base.proofs.TestLaws.{clash, eq_is, eq_same, not_true, or_later}

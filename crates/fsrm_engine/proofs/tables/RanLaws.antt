@@ -5,10 +5,10 @@ use Rattle.fsrm_model.specs.declared.command.Act.{Act}
 use Rattle.fsrm_model.specs.declared.row.Capacity.{Capacity}
 use Rattle.fsrm_model.specs.declared.row.NodeRow.{NodeRow}
 use Rattle.fsrm_model.specs.declared.row.QuotaRow.{QuotaRow}
-use Rattle.fsrm_model.specs.Limits.{latest_moment}
-use Rattle.fsrm_model.specs.Quota.{counts}
-use Rattle.fsrm_model.specs.Runs.{run_quota}
-use Rattle.fsrm_model.specs.Tree.{usage}
+use Rattle.fsrm_model.specs.values.Limits.{latest_moment}
+use Rattle.fsrm_model.specs.objects.Quota.{counts}
+use Rattle.fsrm_model.specs.objects.Runs.{run_quota}
+use Rattle.fsrm_model.specs.nodes.Tree.{usage}
 use Rattle.fsrm_model.proofs.valid.QuotasKept.{quotas-ran}
 use Rattle.fsrm_objects.specs.Tables.{Tables}
 use Rattle.quota_usage.specs.declared.change.Counter.{Counter}

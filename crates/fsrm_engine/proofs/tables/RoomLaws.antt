@@ -24,14 +24,14 @@ use Rattle.fsrm_model.specs.declared.row.QuotaRow.{QuotaRow}
 use Rattle.fsrm_model.specs.declared.row.QuotaState.{QuotaState}
 use Rattle.fsrm_model.specs.declared.row.Rows.{Rows}
 use Rattle.fsrm_model.specs.declared.row.Threshold.{Threshold}
-use Rattle.fsrm_model.specs.Check.{Check, table_full, texts_full}
-use Rattle.fsrm_model.specs.Limits.{most_quotas, most_text_bytes, longest_action_text}
-use Rattle.fsrm_model.specs.Quota.{folder_of, quota_of}
-use Rattle.fsrm_model.specs.QuotaStates.{in_state, state_after, with_quota, with_state}
-use Rattle.fsrm_model.specs.QuotaWork.{changed_by, thresholds_of}
-use Rattle.fsrm_model.specs.Text.{is_bare}
-use Rattle.fsrm_model.specs.Texts.{object_texts, quota_bytes}
-use Rattle.fsrm_model.specs.Thresholds.{are_minutes, are_thresholds, are_too_many, changed_thresholds, is_action, is_action_text, is_kept_action, is_percent, is_printing, is_threshold, may_be_removed, percent_of}
+use Rattle.fsrm_model.specs.commands.Check.{Check, table_full, texts_full}
+use Rattle.fsrm_model.specs.values.Limits.{most_quotas, most_text_bytes, longest_action_text}
+use Rattle.fsrm_model.specs.objects.Quota.{folder_of, quota_of}
+use Rattle.fsrm_model.specs.objects.QuotaStates.{in_state, state_after, with_quota, with_state}
+use Rattle.fsrm_model.specs.commands.QuotaWork.{changed_by, thresholds_of}
+use Rattle.fsrm_model.specs.texts.Text.{is_bare}
+use Rattle.fsrm_model.specs.values.Texts.{object_texts, quota_bytes}
+use Rattle.fsrm_model.specs.objects.Thresholds.{are_minutes, are_thresholds, are_too_many, changed_thresholds, is_action, is_action_text, is_kept_action, is_percent, is_printing, is_threshold, may_be_removed, percent_of}
 use Rattle.fsrm_objects.specs.declared.answer.ObjectFault.{ObjectFault}
 use Rattle.fsrm_objects.specs.declared.answer.ObjectFault.TheVariants as object
 use Rattle.file_groups.specs.Kept.{group_texts}

@@ -34,18 +34,18 @@ use Rattle.fsrm_model.specs.declared.row.GroupRow.{GroupRow}
 use Rattle.fsrm_model.specs.declared.row.NodeRow.{NodeRow}
 use Rattle.fsrm_model.specs.declared.row.Rows.{Rows}
 use Rattle.fsrm_model.specs.declared.row.ScreenRow.{ScreenRow}
-use Rattle.fsrm_model.specs.Check.{Check, excepts_full, screens_full, texts_full}
-use Rattle.fsrm_model.specs.Commands.{are_some_names}
-use Rattle.fsrm_model.specs.FileOps.{target}
-use Rattle.fsrm_model.specs.Leads.{leads_to_folder}
-use Rattle.fsrm_model.specs.Limits.{longest_action_text, most_actions, most_excepts, most_screens, most_text_bytes}
-use Rattle.fsrm_model.specs.Patterns.{number_named}
-use Rattle.fsrm_model.specs.Screens.{except_folder, except_of, screen_folder, screen_of}
-use Rattle.fsrm_model.specs.ScreenWork.{are_many_groups, are_named, changed_groups, groups_of, may_be_taken, new_except, new_screen, numbers_named, rescreened, screen_checks, with_last}
-use Rattle.fsrm_model.specs.Text.{is_bare}
-use Rattle.fsrm_model.specs.Texts.{object_texts}
-use Rattle.fsrm_model.specs.Thresholds.{are_minutes, is_action, is_action_text, is_kept_action, is_new_action, is_printing}
-use Rattle.fsrm_model.specs.Valid.{is_sound_screen}
+use Rattle.fsrm_model.specs.commands.Check.{Check, excepts_full, screens_full, texts_full}
+use Rattle.fsrm_model.specs.commands.Commands.{are_some_names}
+use Rattle.fsrm_model.specs.nodes.FileOps.{target}
+use Rattle.fsrm_model.specs.nodes.Leads.{leads_to_folder}
+use Rattle.fsrm_model.specs.values.Limits.{longest_action_text, most_actions, most_excepts, most_screens, most_text_bytes}
+use Rattle.fsrm_model.specs.values.Patterns.{number_named}
+use Rattle.fsrm_model.specs.objects.Screens.{except_folder, except_of, screen_folder, screen_of}
+use Rattle.fsrm_model.specs.commands.ScreenWork.{are_many_groups, are_named, changed_groups, groups_of, may_be_taken, new_except, new_screen, numbers_named, rescreened, screen_checks, with_last}
+use Rattle.fsrm_model.specs.texts.Text.{is_bare}
+use Rattle.fsrm_model.specs.values.Texts.{object_texts}
+use Rattle.fsrm_model.specs.objects.Thresholds.{are_minutes, is_action, is_action_text, is_kept_action, is_new_action, is_printing}
+use Rattle.fsrm_model.specs.store.Valid.{is_sound_screen}
 use Rattle.fsrm_model.proofs.thresholds.ThresholdLaws.{kept_by_all}
 use Rattle.fsrm_model.proofs.valid.ScreensKept.{IsScreen, all_weaker, screen_at, table_parts}
 use Rattle.fsrm_objects.specs.declared.answer.ObjectFault.{ObjectFault}

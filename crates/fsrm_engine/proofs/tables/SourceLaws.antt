@@ -20,16 +20,16 @@ use Rattle.fsrm_model.specs.declared.row.QuotaState.{QuotaState}
 use Rattle.fsrm_model.specs.declared.row.QuotaState.TheVariants.{Disabled}
 use Rattle.fsrm_model.specs.declared.row.Rows.{Rows}
 use Rattle.fsrm_model.specs.declared.row.TemplateRow.{TemplateRow}
-use Rattle.fsrm_model.specs.Check.{Check, table_full, texts_full}
-use Rattle.fsrm_model.specs.Limits.{latest_moment, most_templates}
-use Rattle.fsrm_model.specs.Name.{is_named}
-use Rattle.fsrm_model.specs.Quota.{folder_of, counts, is_complete, is_limit, quota_of}
-use Rattle.fsrm_model.specs.QuotaStates.{queued, start, with_quota}
-use Rattle.fsrm_model.specs.QuotaWork.{changed_by, first_quota, source_of}
-use Rattle.fsrm_model.specs.Templates.{is_template, template_name, template_named, template_number, template_of}
-use Rattle.fsrm_model.specs.Thresholds.{are_thresholds, are_too_many, is_threshold, percent_of}
-use Rattle.fsrm_model.specs.Tree.{is_folder, usage}
-use Rattle.fsrm_model.specs.Valid.{is_moment}
+use Rattle.fsrm_model.specs.commands.Check.{Check, table_full, texts_full}
+use Rattle.fsrm_model.specs.values.Limits.{latest_moment, most_templates}
+use Rattle.fsrm_model.specs.values.Name.{is_named}
+use Rattle.fsrm_model.specs.objects.Quota.{folder_of, counts, is_complete, is_limit, quota_of}
+use Rattle.fsrm_model.specs.objects.QuotaStates.{queued, start, with_quota}
+use Rattle.fsrm_model.specs.commands.QuotaWork.{changed_by, first_quota, source_of}
+use Rattle.fsrm_model.specs.objects.Templates.{is_template, template_name, template_named, template_number, template_of}
+use Rattle.fsrm_model.specs.objects.Thresholds.{are_thresholds, are_too_many, is_threshold, percent_of}
+use Rattle.fsrm_model.specs.nodes.Tree.{is_folder, usage}
+use Rattle.fsrm_model.specs.store.Valid.{is_moment}
 use Rattle.fsrm_model.proofs.commands.ValueParts.{AreNewThresholds}
 use Rattle.fsrm_model.proofs.valid.NamesApart.{IsNamedTable, named_parts}
 use Rattle.fsrm_model.proofs.valid.TemplatesKept.{template_parts}

@@ -11,16 +11,16 @@ use Rattle.fsrm_model.specs.declared.row.QuotaRow.{QuotaRow}
 use Rattle.fsrm_model.specs.declared.row.QuotaState.{QuotaState}
 use Rattle.fsrm_model.specs.declared.row.QuotaState.TheVariants.{Complete, Disabled, Rebuilding}
 use Rattle.fsrm_model.specs.declared.row.Rows.{Rows}
-use Rattle.fsrm_model.specs.Check.{Check, ◌when◌, first}
-use Rattle.fsrm_model.specs.FileOps.{target}
+use Rattle.fsrm_model.specs.commands.Check.{Check, ◌when◌, first}
+use Rattle.fsrm_model.specs.nodes.FileOps.{target}
 use Rattle.fsrm_base.specs.Keyed.{is_ascending, with_change}
-use Rattle.fsrm_model.specs.Leads.{leads_to_folder}
-use Rattle.fsrm_model.specs.Quota.{folder_of, quota_of, is_complete}
-use Rattle.fsrm_model.specs.QuotaStates.{start, state_of, state_after, is_disabled, in_state}
-use Rattle.fsrm_model.specs.QuotaWork.{quota_checks}
-use Rattle.fsrm_model.specs.Space.{space}
-use Rattle.fsrm_model.specs.Tree.{node_of, is_folder, children, usage}
-use Rattle.fsrm_model.specs.Valid.{IsVolume}
+use Rattle.fsrm_model.specs.nodes.Leads.{leads_to_folder}
+use Rattle.fsrm_model.specs.objects.Quota.{folder_of, quota_of, is_complete}
+use Rattle.fsrm_model.specs.objects.QuotaStates.{start, state_of, state_after, is_disabled, in_state}
+use Rattle.fsrm_model.specs.commands.QuotaWork.{quota_checks}
+use Rattle.fsrm_model.specs.values.Space.{space}
+use Rattle.fsrm_model.specs.nodes.Tree.{node_of, is_folder, children, usage}
+use Rattle.fsrm_model.specs.store.Valid.{IsVolume}
 use Rattle.fsrm_base.proofs.TestLaws.{clash, eq_is}
 use Rattle.fsrm_model.proofs.nodes.UsageLaws.{usage_children}
 use Rattle.fsrm_engine.specs.Places.{IsFolder}

@@ -7,8 +7,8 @@ use Rattle.fsrm_model.specs.declared.row.Capacity.{Capacity}
 use Rattle.fsrm_model.specs.declared.row.NodeRow.{NodeRow}
 use Rattle.fsrm_model.specs.declared.row.QuotaRow.{QuotaRow}
 use Rattle.fsrm_base.specs.Keyed.{row_of, has_row, is_ascending, with_row, without_row}
-use Rattle.fsrm_model.specs.Quota.{folder_of, counts}
-use Rattle.fsrm_model.specs.Tree.{usage}
+use Rattle.fsrm_model.specs.objects.Quota.{folder_of, counts}
+use Rattle.fsrm_model.specs.nodes.Tree.{usage}
 use Rattle.fsrm_base.proofs.EditedRows.{absent_later, ascending_tail}
 use Rattle.fsrm_base.proofs.Look.{none_row, is_some-find}
 use Rattle.fsrm_base.proofs.TestLaws.{eq_is, both, lt_is, lt_test}

@@ -23,16 +23,16 @@ use Rattle.fsrm_model.specs.declared.row.NodeRow.{NodeRow}
 use Rattle.fsrm_model.specs.declared.row.QuotaRow.{QuotaRow}
 use Rattle.fsrm_model.specs.declared.row.TemplateRow.{TemplateRow}
 use Rattle.fsrm_model.specs.declared.row.Threshold.{Threshold}
-use Rattle.fsrm_model.specs.Limits.{most_templates, most_text_bytes}
-use Rattle.fsrm_model.specs.Name.{is_named}
-use Rattle.fsrm_model.specs.Quota.{counts, is_complete}
-use Rattle.fsrm_model.specs.QuotaStates.{followed}
-use Rattle.fsrm_model.specs.Templates.{is_derived, is_template, template_name, template_named, template_number, without_source}
-use Rattle.fsrm_model.specs.TemplateWork.{is_applied, new_template, number_in}
-use Rattle.fsrm_model.specs.Text.{is_bare}
-use Rattle.fsrm_model.specs.Texts.{auto_bytes, object_texts, template_bytes}
-use Rattle.fsrm_model.specs.Thresholds.{are_too_many, changed_thresholds}
-use Rattle.fsrm_model.specs.Tree.{usage}
+use Rattle.fsrm_model.specs.values.Limits.{most_templates, most_text_bytes}
+use Rattle.fsrm_model.specs.values.Name.{is_named}
+use Rattle.fsrm_model.specs.objects.Quota.{counts, is_complete}
+use Rattle.fsrm_model.specs.objects.QuotaStates.{followed}
+use Rattle.fsrm_model.specs.objects.Templates.{is_derived, is_template, template_name, template_named, template_number, without_source}
+use Rattle.fsrm_model.specs.commands.TemplateWork.{is_applied, new_template, number_in}
+use Rattle.fsrm_model.specs.texts.Text.{is_bare}
+use Rattle.fsrm_model.specs.values.Texts.{auto_bytes, object_texts, template_bytes}
+use Rattle.fsrm_model.specs.objects.Thresholds.{are_too_many, changed_thresholds}
+use Rattle.fsrm_model.specs.nodes.Tree.{usage}
 use Rattle.fsrm_model.proofs.commands.ValueParts.{IsNewTemplate}
 use Rattle.fsrm_model.proofs.thresholds.ThresholdLaws.{changed_kept}
 use Rattle.fsrm_model.proofs.thresholds.UnrunKept.{changed_unrun}

@@ -24,12 +24,12 @@ use Rattle.fsrm_model.specs.declared.command.Update.{Update}
 use Rattle.fsrm_model.specs.declared.row.QuotaRow.{QuotaRow}
 use Rattle.fsrm_model.specs.declared.row.Rows.{Rows}
 use Rattle.fsrm_model.specs.declared.row.TemplateRow.{TemplateRow}
-use Rattle.fsrm_model.specs.Limits.{most_text_bytes}
-use Rattle.fsrm_model.specs.Quota.{folder_of}
-use Rattle.fsrm_model.specs.Templates.{as_template, is_reached, is_template, template_name, template_named, template_number, template_of, updated}
-use Rattle.fsrm_model.specs.TemplateWork.{number_in, retemplated, thresholds_in, updated_quotas}
-use Rattle.fsrm_model.specs.Texts.{object_texts, template_bytes}
-use Rattle.fsrm_model.specs.Thresholds.{are_too_many, changed_thresholds, may_be_removed}
+use Rattle.fsrm_model.specs.values.Limits.{most_text_bytes}
+use Rattle.fsrm_model.specs.objects.Quota.{folder_of}
+use Rattle.fsrm_model.specs.objects.Templates.{as_template, is_reached, is_template, template_name, template_named, template_number, template_of, updated}
+use Rattle.fsrm_model.specs.commands.TemplateWork.{number_in, retemplated, thresholds_in, updated_quotas}
+use Rattle.fsrm_model.specs.values.Texts.{object_texts, template_bytes}
+use Rattle.fsrm_model.specs.objects.Thresholds.{are_too_many, changed_thresholds, may_be_removed}
 use Rattle.fsrm_model.proofs.commands.QuotaCommands.{limit_kept}
 use Rattle.fsrm_model.proofs.commands.ValueParts.{IsTemplateChange}
 use Rattle.fsrm_model.proofs.thresholds.ThresholdLaws.{changed_kept}

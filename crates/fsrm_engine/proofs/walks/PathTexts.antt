@@ -6,7 +6,7 @@ use Rattle.std.specs.Prelude.{filter, map, reverse, codes}
 use Rattle.std.specs.List.{join_with_byte}
 use Rattle.fsrm_model.specs.declared.row.NodeRow.{NodeRow}
 use Rattle.fsrm_base.specs.Keyed.{has_row}
-use Rattle.fsrm_model.specs.Tree.{number, name_of, chain, parent_of}
+use Rattle.fsrm_model.specs.nodes.Tree.{number, name_of, chain, parent_of}
 use Rattle.fsrm_base.proofs.TestLaws.{eq_is, is_apart}
 use Rattle.fsrm_model.proofs.nodes.ChainLaws.{IsTree}
 use Rattle.fsrm_model.proofs.nodes.Walks.{found_name}

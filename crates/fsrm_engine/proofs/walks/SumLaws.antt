@@ -9,10 +9,10 @@ use Rattle.fsrm_base.proofs.Look.{has_found}
 use Rattle.fsrm_base.specs.Keyed.{has_row}
 use Rattle.fsrm_model.specs.declared.row.Capacity.{Capacity}
 use Rattle.fsrm_model.specs.declared.row.NodeRow.{NodeRow}
-use Rattle.fsrm_model.specs.Capacities.{is_capacity}
-use Rattle.fsrm_model.specs.Space.{alloc, space}
-use Rattle.fsrm_model.specs.Tree.{number, is_folder, children_in_order, under, usage}
-use Rattle.fsrm_model.specs.Valid.{IsVolume}
+use Rattle.fsrm_model.specs.store.Capacities.{is_capacity}
+use Rattle.fsrm_model.specs.values.Space.{alloc, space}
+use Rattle.fsrm_model.specs.nodes.Tree.{number, is_folder, children_in_order, under, usage}
+use Rattle.fsrm_model.specs.store.Valid.{IsVolume}
 use Rattle.fsrm_model.proofs.nodes.Keeps.{folder_found}
 use Rattle.fsrm_model.proofs.nodes.UsageLaws.{usage_of_file, count_of_file}
 use Rattle.fsrm_model.proofs.valid.ValidLaws.{folder_has}

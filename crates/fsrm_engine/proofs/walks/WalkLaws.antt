@@ -8,13 +8,13 @@ use Rattle.std.specs.List.{AllByRecursion, list_all}
 use Rattle.fsrm_model.specs.declared.row.Capacity.{Capacity}
 use Rattle.fsrm_model.specs.declared.row.NodeRow.{NodeRow}
 use Rattle.fsrm_base.specs.Keyed.{has_row, is_ascending}
-use Rattle.fsrm_model.specs.Capacities.{is_capacity}
-use Rattle.fsrm_model.specs.Limits.{longest_file}
-use Rattle.fsrm_model.specs.Name.{name_before}
+use Rattle.fsrm_model.specs.store.Capacities.{is_capacity}
+use Rattle.fsrm_model.specs.values.Limits.{longest_file}
+use Rattle.fsrm_model.specs.values.Name.{name_before}
 use Rattle.fsrm_base.specs.Order.{put, in_order}
-use Rattle.fsrm_model.specs.Space.{alloc, space}
-use Rattle.fsrm_model.specs.Tree.{number, node_of, is_child, children, children_in_order, is_under, under, usage}
-use Rattle.fsrm_model.specs.Valid.{IsVolume}
+use Rattle.fsrm_model.specs.values.Space.{alloc, space}
+use Rattle.fsrm_model.specs.nodes.Tree.{number, node_of, is_child, children, children_in_order, is_under, under, usage}
+use Rattle.fsrm_model.specs.store.Valid.{IsVolume}
 use Rattle.fsrm_base.proofs.TestLaws.{is_or_not, both, eq_is, lt_is, le_is}
 use Rattle.fsrm_base.proofs.EditedRows.{all_rows}
 use Rattle.fsrm_base.proofs.Order.{parts}

@@ -10,17 +10,17 @@ use Rattle.fsrm_model.specs.declared.row.Capacity.{Capacity}
 use Rattle.fsrm_model.specs.declared.row.NodeRow.{NodeRow}
 use Rattle.fsrm_model.specs.declared.row.QuotaRow.{QuotaRow}
 use Rattle.fsrm_model.specs.declared.row.Rows.{Rows}
-use Rattle.fsrm_model.specs.Acts.{of_quotas}
-use Rattle.fsrm_model.specs.Audits.{audited}
-use Rattle.fsrm_model.specs.DueActions.{quota_acts, due, due_screen}
-use Rattle.fsrm_model.specs.Quota.{folder_of, quota_of, counts, peaked, peaks}
-use Rattle.fsrm_model.specs.QuotaStates.{followed}
-use Rattle.fsrm_model.specs.Reached.{reached, crossed}
-use Rattle.fsrm_model.specs.Receives.{ended}
-use Rattle.fsrm_model.specs.Runs.{run_quota}
-use Rattle.fsrm_model.specs.Step.{Stepped, Acted, is_accepted, step, work, screened_by, screened, refused_leaving, decided, lasted, unlasting, left_by}
-use Rattle.fsrm_model.specs.Tree.{usage}
-use Rattle.fsrm_model.specs.Work.{Work, Judged}
+use Rattle.fsrm_model.specs.objects.Acts.{of_quotas}
+use Rattle.fsrm_model.specs.objects.Audits.{audited}
+use Rattle.fsrm_model.specs.objects.DueActions.{quota_acts, due, due_screen}
+use Rattle.fsrm_model.specs.objects.Quota.{folder_of, quota_of, counts, peaked, peaks}
+use Rattle.fsrm_model.specs.objects.QuotaStates.{followed}
+use Rattle.fsrm_model.specs.objects.Reached.{reached, crossed}
+use Rattle.fsrm_model.specs.meaning.Receives.{ended}
+use Rattle.fsrm_model.specs.objects.Runs.{run_quota}
+use Rattle.fsrm_model.specs.commands.Step.{Stepped, Acted, is_accepted, step, work, screened_by, screened, refused_leaving, decided, lasted, unlasting, left_by}
+use Rattle.fsrm_model.specs.nodes.Tree.{usage}
+use Rattle.fsrm_model.specs.commands.Work.{Work, Judged}
 use Rattle.fsrm_base.proofs.Look.{find-map}
 use Rattle.fsrm_model.proofs.commands.OrderlyLaws.{verdict, refused_outcome}
 use Rattle.fsrm_model.proofs.commands.QuotaLaws.{peaked_folder}

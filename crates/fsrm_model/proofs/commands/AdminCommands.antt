@@ -3,13 +3,13 @@ use Rattle.std.proofs.Common.{◌≡◌, ℕ, [], true, refl, nat_le}
 use Rattle.std.specs.Prelude.{◌&&◌}
 use Rattle.fsrm_model.specs.declared.row.Capacity.{Capacity}
 use Rattle.fsrm_model.specs.declared.row.Rows.{Rows}
-use Rattle.fsrm_model.specs.AdminWork.{options_work, settings_work, log_work}
-use Rattle.fsrm_model.specs.Limits.{most_minutes}
+use Rattle.fsrm_model.specs.commands.AdminWork.{options_work, settings_work, log_work}
+use Rattle.fsrm_model.specs.values.Limits.{most_minutes}
 use Rattle.fsrm_base.proofs.TestLaws.{le_is}
 use Rattle.fsrm_model.proofs.commands.Orderly.{IsStill, KeepsValid, change_still, show_still}
 use Rattle.fsrm_model.proofs.valid.RowsKept.{run_limit_followed}
 use Rattle.fsrm_model.proofs.journal.Alike.{WorksAlike, alike, lasting_alike}
-use Rattle.fsrm_model.specs.Lasting.{lasting}
+use Rattle.fsrm_model.specs.store.Lasting.{lasting}
 
 pub options_still : (K : Capacity) (R : Rows) (minutes : ℕ) → IsStill K R (options_work R minutes)
 options_still K R minutes = change_still K R [] _ tt refl

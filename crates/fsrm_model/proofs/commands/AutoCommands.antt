@@ -4,23 +4,23 @@ use Rattle.std.specs.Prelude.{filter_map, fold, is_none, is_some, sum_by, if◌t
 use Rattle.fsrm_base.specs.Keyed.{has_row, is_ascending, with_row, without_row}
 use Rattle.fsrm_base.proofs.Look.{found_has, found_own, is_some-find}
 use Rattle.fsrm_base.proofs.TestLaws.{ge_is}
-use Rattle.fsrm_model.specs.AutoApply.{auto_folder, auto_of, applied, quotas_with, queue_with, with_quotas, subfolders, template_for, without_auto}
-use Rattle.fsrm_model.specs.AutoWork.{new_auto, auto_add_work, auto_delete_work, auto_list_work}
+use Rattle.fsrm_model.specs.objects.AutoApply.{auto_folder, auto_of, applied, quotas_with, queue_with, with_quotas, subfolders, template_for, without_auto}
+use Rattle.fsrm_model.specs.commands.AutoWork.{new_auto, auto_add_work, auto_delete_work, auto_list_work}
 use Rattle.fsrm_model.specs.declared.command.NewAutoquota.{NewAutoquota}
 use Rattle.fsrm_model.specs.declared.command.Refusal.TheVariants.{PathNotFound, AlreadyExists, NotFound, TableFull, TextsFull}
 use Rattle.fsrm_model.specs.declared.row.AutoRow.{AutoRow}
 use Rattle.fsrm_model.specs.declared.row.Capacity.{Capacity}
 use Rattle.fsrm_model.specs.declared.row.Rows.{Rows}
 use Rattle.fsrm_model.specs.declared.row.TemplateRow.{TemplateRow}
-use Rattle.fsrm_model.specs.Commands.{is_new_autoquota}
-use Rattle.fsrm_model.specs.Check.{◌when◌, autos_full, table_full, texts_full}
-use Rattle.fsrm_model.specs.FileOps.{target}
-use Rattle.fsrm_model.specs.Leads.{leads_to_folder}
-use Rattle.fsrm_model.specs.Limits.{latest_moment, most_autos, most_quotas, most_templates, most_text_bytes}
-use Rattle.fsrm_model.specs.Name.{is_named}
-use Rattle.fsrm_model.specs.Templates.{template_number, template_name, template_named, is_template, derived, template_of}
-use Rattle.fsrm_model.specs.TemplateWork.{number_in}
-use Rattle.fsrm_model.specs.Texts.{auto_bytes, object_texts}
+use Rattle.fsrm_model.specs.commands.Commands.{is_new_autoquota}
+use Rattle.fsrm_model.specs.commands.Check.{◌when◌, autos_full, table_full, texts_full}
+use Rattle.fsrm_model.specs.nodes.FileOps.{target}
+use Rattle.fsrm_model.specs.nodes.Leads.{leads_to_folder}
+use Rattle.fsrm_model.specs.values.Limits.{latest_moment, most_autos, most_quotas, most_templates, most_text_bytes}
+use Rattle.fsrm_model.specs.values.Name.{is_named}
+use Rattle.fsrm_model.specs.objects.Templates.{template_number, template_name, template_named, is_template, derived, template_of}
+use Rattle.fsrm_model.specs.commands.TemplateWork.{number_in}
+use Rattle.fsrm_model.specs.values.Texts.{auto_bytes, object_texts}
 use Rattle.fsrm_model.proofs.commands.FileParts.{folder_at}
 use Rattle.fsrm_model.proofs.commands.Orderly.{IsStill, KeepsValid, change_still, show_still, bare, first_none, when_none}
 use Rattle.fsrm_model.proofs.commands.ValueParts.{new_autoquota_parts}
@@ -32,11 +32,11 @@ use Rattle.fsrm_model.proofs.valid.TemplatesKept.{autos-new, autos-gone, quotas-
 use Rattle.fsrm_model.specs.declared.row.QuotaRow.{QuotaRow}
 use Rattle.fsrm_model.proofs.journal.Alike.{RowsAlike, WorksAlike, alike, lasting_alike, quotas_alike, table_same, texts_same}
 use Rattle.fsrm_model.proofs.journal.KeptQuotas.{kept, kept_twice, same_coming}
-use Rattle.fsrm_model.specs.Lasting.{lasting}
-use Rattle.fsrm_model.specs.Tree.{name_of, parent_of}
+use Rattle.fsrm_model.specs.store.Lasting.{lasting}
+use Rattle.fsrm_model.specs.nodes.Tree.{name_of, parent_of}
 use Rattle.std.specs.Option.{option_and_then}
 use Rattle.fsrm_model.proofs.journal.KeptEnds.{some_lasting}
-use Rattle.fsrm_model.specs.QuotaStates.{start}
+use Rattle.fsrm_model.specs.objects.QuotaStates.{start}
 
 pub auto_add_still : (K : Capacity) (R : Rows) (moment : ℕ) (new : NewAutoquota) → IsStill K R (auto_add_work R moment new)
 auto_add_still K R moment new =

@@ -25,21 +25,21 @@ use Rattle.fsrm_model.specs.declared.row.Capacity.{Capacity}
 use Rattle.fsrm_model.specs.declared.row.NodeRow.{NodeRow}
 use Rattle.fsrm_model.specs.declared.row.QuotaRow.{QuotaRow}
 use Rattle.fsrm_model.specs.declared.row.Rows.{Rows}
-use Rattle.fsrm_model.specs.Commands.{emptied, empty_autoquota, empty_exception, empty_filegroup, empty_filegroup_change, empty_quota, empty_quota_change, empty_screen, empty_screen_change, empty_template, empty_template_change, kind}
-use Rattle.fsrm_model.specs.Exceeds.{Exceeds}
-use Rattle.fsrm_model.specs.Exceptions.{may_leave}
-use Rattle.fsrm_model.specs.FileOps.{plain}
-use Rattle.fsrm_model.specs.Lasting.{lasting}
-use Rattle.fsrm_model.specs.Named.{IsNamed}
-use Rattle.fsrm_model.specs.Limits.{latest_moment}
-use Rattle.fsrm_model.specs.Quota.{quota_of, counts}
-use Rattle.fsrm_model.specs.Space.{space}
-use Rattle.fsrm_model.specs.Step.{decided, lasted, screened, step, unlasting, work}
-use Rattle.fsrm_model.specs.Tree.{usage, under}
-use Rattle.fsrm_model.specs.Valid.{is_moment, IsValid}
-use Rattle.fsrm_model.specs.Valued.{is_deed, is_short, is_command}
-use Rattle.fsrm_model.specs.Work.{Work, Judged}
-use Rattle.fsrm_model.specs.FileWork.{judged_name}
+use Rattle.fsrm_model.specs.commands.Commands.{emptied, empty_autoquota, empty_exception, empty_filegroup, empty_filegroup_change, empty_quota, empty_quota_change, empty_screen, empty_screen_change, empty_template, empty_template_change, kind}
+use Rattle.fsrm_model.specs.meaning.Exceeds.{Exceeds}
+use Rattle.fsrm_model.specs.meaning.Exceptions.{may_leave}
+use Rattle.fsrm_model.specs.nodes.FileOps.{plain}
+use Rattle.fsrm_model.specs.store.Lasting.{lasting}
+use Rattle.fsrm_model.specs.meaning.Named.{IsNamed}
+use Rattle.fsrm_model.specs.values.Limits.{latest_moment}
+use Rattle.fsrm_model.specs.objects.Quota.{quota_of, counts}
+use Rattle.fsrm_model.specs.values.Space.{space}
+use Rattle.fsrm_model.specs.commands.Step.{decided, lasted, screened, step, unlasting, work}
+use Rattle.fsrm_model.specs.nodes.Tree.{usage, under}
+use Rattle.fsrm_model.specs.store.Valid.{is_moment, IsValid}
+use Rattle.fsrm_model.specs.store.Valued.{is_deed, is_short, is_command}
+use Rattle.fsrm_model.specs.commands.Work.{Work, Judged}
+use Rattle.fsrm_model.specs.commands.FileWork.{judged_name}
 use Rattle.fsrm_model.proofs.commands.AdminCommands.{options_still, options_kept, settings_still, log_still, log_alike, options_alike, settings_alike}
 use Rattle.fsrm_model.proofs.commands.AutoCommands.{auto_add_still, auto_delete_still, auto_list_still, auto_add_kept, auto_delete_kept, auto_list_kept, auto_add_alike, auto_delete_alike, auto_list_alike}
 use Rattle.fsrm_model.proofs.commands.Ends.{effect_nodes, outcome_kept}
@@ -54,8 +54,8 @@ use Rattle.fsrm_model.proofs.commands.TemplateCommands.{template_add_still, temp
 use Rattle.fsrm_model.proofs.valid.RowsKept.{nothing_followed}
 use Rattle.fsrm_model.proofs.commands.ScanCommands.{scan_kept, step_kept, scan_still, step_still, scan_alike, step_lasts}
 use Rattle.fsrm_base.proofs.TestLaws.{both, le_is}
-use Rattle.fsrm_model.specs.QuotaStates.{followed}
-use Rattle.fsrm_model.specs.Replays.{is_scan_step, accepted_lasts, lasts_by, lasts}
+use Rattle.fsrm_model.specs.objects.QuotaStates.{followed}
+use Rattle.fsrm_model.specs.store.Replays.{is_scan_step, accepted_lasts, lasts_by, lasts}
 use Rattle.fsrm_model.proofs.journal.Alike.{WorksAlike}
 use Rattle.fsrm_model.proofs.journal.AlikeSteps.{StepsAlike, step_alike}
 

@@ -10,14 +10,14 @@ use Rattle.fsrm_model.specs.declared.command.Refusal.TheVariants.{ScreenBlocked,
 use Rattle.fsrm_model.specs.declared.row.Capacity.{Capacity}
 use Rattle.fsrm_model.specs.declared.row.QuotaState.TheVariants.{Complete}
 use Rattle.fsrm_model.specs.declared.row.Rows.{Rows}
-use Rattle.fsrm_model.specs.FileOps.{plain}
-use Rattle.fsrm_model.specs.FileWork.{file_effect}
-use Rattle.fsrm_model.specs.QuotaStates.{followed, with_state, head}
-use Rattle.fsrm_model.specs.Scan.{visits}
-use Rattle.fsrm_model.specs.ScanWork.{step_work}
-use Rattle.fsrm_model.specs.DueActions.{due_refused}
-use Rattle.fsrm_model.specs.Step.{Stepped, acted, screened_by, screened, ran_if_any, refused_leaving, refused, decided, lasted, unlasting}
-use Rattle.fsrm_model.specs.Work.{Work, Judged}
+use Rattle.fsrm_model.specs.nodes.FileOps.{plain}
+use Rattle.fsrm_model.specs.commands.FileWork.{file_effect}
+use Rattle.fsrm_model.specs.objects.QuotaStates.{followed, with_state, head}
+use Rattle.fsrm_model.specs.objects.Scan.{visits}
+use Rattle.fsrm_model.specs.commands.ScanWork.{step_work}
+use Rattle.fsrm_model.specs.objects.DueActions.{due_refused}
+use Rattle.fsrm_model.specs.commands.Step.{Stepped, acted, screened_by, screened, ran_if_any, refused_leaving, refused, decided, lasted, unlasting}
+use Rattle.fsrm_model.specs.commands.Work.{Work, Judged}
 
 -- what is known of a refusal: it leaves nothing, or what actions leave that ran, or what a name leaves that a screen judges
 pub refused_cases : (K : Capacity) (R : Rows) (moment : ℕ) (w : Work) (refusal : Refusal) (P : Stepped → Type 0) → P (unlasting R (Refused refusal)) → ((acts : List Act) → P (lasted K R (acted moment acts R) moment (Refused refusal))) → ((screen : ℕ) (j : Judged) → refusal ≡ ScreenBlocked screen → w.judged ≡ Some j → P (lasted K R (screened_by R moment j) moment (Refused refusal))) → P (refused K R moment w refusal)

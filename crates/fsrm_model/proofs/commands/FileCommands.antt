@@ -12,32 +12,32 @@ use Rattle.fsrm_model.specs.declared.row.NodeRow.{NodeRow}
 use Rattle.fsrm_model.specs.declared.row.QuotaRow.{QuotaRow}
 use Rattle.fsrm_model.specs.declared.row.Rows.{Rows}
 use Rattle.fsrm_model.specs.declared.row.ScreenRow.{ScreenRow}
-use Rattle.fsrm_model.specs.AutoApply.{auto_folder, applied, quotas_with, queue_with, with_quotas}
-use Rattle.fsrm_model.specs.Check.{Check, first, ◌when◌, volume_full, names_full, table_full, texts_full}
-use Rattle.fsrm_model.specs.FileWork.{judged_by, judged_name, blocked, reported, file_checks, file_effect, file_work, usage_work, objects_after, unvisited_after}
+use Rattle.fsrm_model.specs.objects.AutoApply.{auto_folder, applied, quotas_with, queue_with, with_quotas}
+use Rattle.fsrm_model.specs.commands.Check.{Check, first, ◌when◌, volume_full, names_full, table_full, texts_full}
+use Rattle.fsrm_model.specs.commands.FileWork.{judged_by, judged_name, blocked, reported, file_checks, file_effect, file_work, usage_work, objects_after, unvisited_after}
 use Rattle.fsrm_base.specs.Keyed.{has_row, with_row, with_change, without_row}
-use Rattle.fsrm_model.specs.Leads.{is_root, leads, leads_to_folder, leads_to_file, leads_to_other}
-use Rattle.fsrm_model.specs.Name.{is_name}
-use Rattle.fsrm_model.specs.Named.{IsNamed}
-use Rattle.fsrm_model.specs.Screens.{screen_folder, screen_of, judging}
-use Rattle.fsrm_model.specs.Work.{Judged}
-use Rattle.fsrm_model.specs.Tree.{number, resolve, node_of, is_folder, is_under, owner_of, folder_part, last_name, name_of, name_bytes, fresh}
-use Rattle.fsrm_model.specs.Valid.{IsVolume, is_own, are_templates, AreTables, IsValid}
+use Rattle.fsrm_model.specs.nodes.Leads.{is_root, leads, leads_to_folder, leads_to_file, leads_to_other}
+use Rattle.fsrm_model.specs.values.Name.{is_name}
+use Rattle.fsrm_model.specs.meaning.Named.{IsNamed}
+use Rattle.fsrm_model.specs.objects.Screens.{screen_folder, screen_of, judging}
+use Rattle.fsrm_model.specs.commands.Work.{Judged}
+use Rattle.fsrm_model.specs.nodes.Tree.{number, resolve, node_of, is_folder, is_under, owner_of, folder_part, last_name, name_of, name_bytes, fresh}
+use Rattle.fsrm_model.specs.store.Valid.{IsVolume, is_own, are_templates, AreTables, IsValid}
 use Rattle.fsrm_model.proofs.commands.Ends.{effect_nodes}
 use Rattle.fsrm_model.proofs.commands.HardLimits.{op_within}
 use Rattle.fsrm_model.proofs.commands.Orderly.{AreChecks, IsJudged, IsOrderly, IsStill, IsAsked, KeepsLimits, NamesJudged, show_still, bare, screens_bear, quotas_bear, first_none, when_none, not_false, KeepsValid}
 use Rattle.fsrm_model.proofs.nodes.Resolves.{resolved}
 use Rattle.std.specs.Option.{option_map_or}
 use Rattle.std.specs.List.{list_all}
-use Rattle.fsrm_model.specs.FileOps.{target, target_folder, new_node, resized, touched, placed, plain}
-use Rattle.fsrm_model.specs.Limits.{latest_moment, longest_file, last_owner, most_quotas, most_text_bytes}
+use Rattle.fsrm_model.specs.nodes.FileOps.{target, target_folder, new_node, resized, touched, placed, plain}
+use Rattle.fsrm_model.specs.values.Limits.{latest_moment, longest_file, last_owner, most_quotas, most_text_bytes}
 use Rattle.fsrm_base.specs.Numbers.{without_number}
-use Rattle.fsrm_model.specs.Quota.{folder_of, exceeded}
-use Rattle.fsrm_model.specs.QuotaStates.{head, same_head, scan_begun, followed}
-use Rattle.fsrm_model.specs.Scan.{AreUnvisited, unvisited_with, unvisited_moved}
-use Rattle.fsrm_model.specs.ValidScans.{AreLeft}
-use Rattle.fsrm_model.specs.Commands.{is_owner, is_length}
-use Rattle.fsrm_model.specs.Valued.{is_op, is_path}
+use Rattle.fsrm_model.specs.objects.Quota.{folder_of, exceeded}
+use Rattle.fsrm_model.specs.objects.QuotaStates.{head, same_head, scan_begun, followed}
+use Rattle.fsrm_model.specs.objects.Scan.{AreUnvisited, unvisited_with, unvisited_moved}
+use Rattle.fsrm_model.specs.store.ValidScans.{AreLeft}
+use Rattle.fsrm_model.specs.commands.Commands.{is_owner, is_length}
+use Rattle.fsrm_model.specs.store.Valued.{is_op, is_path}
 use Rattle.fsrm_model.proofs.commands.FileParts.{NewParts, new_parts, new_alone, folder_at, file_at, may_go, room_parts, move_parts, move_alone, last_named}
 use Rattle.fsrm_model.proofs.nodes.Keeps.{KeepsNode, MayMove, found_folder, moves_of, volume-new, volume-change, volume-moved, volume-removed, folder-new, folder-change}
 use Rattle.fsrm_base.proofs.EditedRows.{find-with_row_same}
@@ -46,8 +46,8 @@ use Rattle.fsrm_base.proofs.Order.{least_free_is, length-with_row}
 use Rattle.fsrm_model.proofs.nodes.OwnLaws.{own_parts, own_joined, own_named, own_new, file_inner, file_short}
 use Rattle.fsrm_model.proofs.valid.QueueKept.{queue_without}
 use Rattle.fsrm_model.proofs.valid.QuotasKept.{quotas_stay, quotas-without}
-use Rattle.fsrm_model.specs.Quota.{folder_of}
-use Rattle.fsrm_model.specs.Texts.{action_bytes, auto_bytes, object_texts, quota_bytes}
+use Rattle.fsrm_model.specs.objects.Quota.{folder_of}
+use Rattle.fsrm_model.specs.values.Texts.{action_bytes, auto_bytes, object_texts, quota_bytes}
 use Rattle.fsrm_model.proofs.thresholds.KeptLaws.{sum_by-less}
 use Rattle.fsrm_model.proofs.valid.ComingQuotas.{coming_one}
 use Rattle.fsrm_model.proofs.valid.RowsKept.{valid_with, same_heads, left_followed, left_after, head_folder, screens_folder}
@@ -63,7 +63,7 @@ use Rattle.fsrm_model.proofs.journal.Alike.{AreSame, RowsAlike, WorksAlike, alik
 use Rattle.fsrm_model.proofs.commands.AutoCommands.{applied_lasting, coming_alike}
 use Rattle.fsrm_model.proofs.journal.KeptEnds.{exceeded_lasting}
 use Rattle.fsrm_model.proofs.journal.KeptQuotas.{kept, kept_twice, kept_without}
-use Rattle.fsrm_model.specs.Lasting.{lasting}
+use Rattle.fsrm_model.specs.store.Lasting.{lasting}
 
 file_are : (K : Capacity) (R : Rows) (op : FileOp) (after : Rows) → AreChecks K R after.nodes (judged_name R op) (file_checks K R op after)
 file_are K R (Mkdir path owner) after =

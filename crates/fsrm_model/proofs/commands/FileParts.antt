@@ -8,16 +8,16 @@ use Rattle.fsrm_model.specs.declared.command.FileOp.TheVariants.{Move}
 use Rattle.fsrm_model.specs.declared.row.Capacity.{Capacity}
 use Rattle.fsrm_model.specs.declared.row.NodeRow.{NodeRow}
 use Rattle.fsrm_model.specs.declared.row.Rows.{Rows}
-use Rattle.fsrm_model.specs.Check.{Check, ◌when◌, first, volume_full, names_full, table_full, texts_full}
-use Rattle.fsrm_model.specs.FileOps.{target, target_folder}
-use Rattle.fsrm_model.specs.FileWork.{judged_name, blocked, move_checks, remove_checks}
-use Rattle.fsrm_model.specs.Leads.{is_root, leads, leads_to_folder, leads_to_file, leads_to_other}
-use Rattle.fsrm_model.specs.Limits.{most_quotas, most_text_bytes}
-use Rattle.fsrm_model.specs.Name.{is_name}
-use Rattle.fsrm_model.specs.Quota.{exceeded}
-use Rattle.fsrm_model.specs.Texts.{object_texts}
-use Rattle.fsrm_model.specs.Tree.{number, node_of, is_folder, is_child, children, child_of, child_number, is_under, resolve, folder_part, last_name, path_of, name_bytes}
-use Rattle.fsrm_model.specs.Valid.{IsVolume}
+use Rattle.fsrm_model.specs.commands.Check.{Check, ◌when◌, first, volume_full, names_full, table_full, texts_full}
+use Rattle.fsrm_model.specs.nodes.FileOps.{target, target_folder}
+use Rattle.fsrm_model.specs.commands.FileWork.{judged_name, blocked, move_checks, remove_checks}
+use Rattle.fsrm_model.specs.nodes.Leads.{is_root, leads, leads_to_folder, leads_to_file, leads_to_other}
+use Rattle.fsrm_model.specs.values.Limits.{most_quotas, most_text_bytes}
+use Rattle.fsrm_model.specs.values.Name.{is_name}
+use Rattle.fsrm_model.specs.objects.Quota.{exceeded}
+use Rattle.fsrm_model.specs.values.Texts.{object_texts}
+use Rattle.fsrm_model.specs.nodes.Tree.{number, node_of, is_folder, is_child, children, child_of, child_number, is_under, resolve, folder_part, last_name, path_of, name_bytes}
+use Rattle.fsrm_model.specs.store.Valid.{IsVolume}
 use Rattle.fsrm_model.proofs.nodes.ChainLaws.{Has}
 use Rattle.fsrm_model.proofs.nodes.Files.{below_file}
 use Rattle.fsrm_model.proofs.nodes.Keeps.{MayGo}

@@ -14,15 +14,15 @@ use Rattle.fsrm_model.specs.declared.command.Refusal.TheVariants.{DuplicateName,
 use Rattle.fsrm_model.specs.declared.row.Capacity.{Capacity}
 use Rattle.fsrm_model.specs.declared.row.GroupRow.{GroupRow}
 use Rattle.fsrm_model.specs.declared.row.Rows.{Rows}
-use Rattle.fsrm_model.specs.Commands.{is_new_filegroup, is_filegroup_change}
-use Rattle.fsrm_model.specs.Check.{◌when◌, groups_full, texts_full}
-use Rattle.fsrm_model.specs.GroupWork.{is_group_named, group_at, is_used, group_add_work, group_modify_work, group_delete_work, group_list_work}
-use Rattle.fsrm_model.specs.Limits.{most_excepts, most_groups, most_screens, most_text_bytes}
-use Rattle.fsrm_model.specs.Patterns.{group_number, group_name, is_object_name, are_members, are_non_members, is_group, has_name, new_group, regrouped, with_group, with_patterns, without_group}
-use Rattle.fsrm_model.specs.Screens.{screen_folder, except_folder}
-use Rattle.fsrm_model.specs.Texts.{group_bytes, object_texts}
-use Rattle.fsrm_model.specs.Tree.{is_folder}
-use Rattle.fsrm_model.specs.Valid.{are_group_numbers, are_groups, is_sound_screen, is_sound_except}
+use Rattle.fsrm_model.specs.commands.Commands.{is_new_filegroup, is_filegroup_change}
+use Rattle.fsrm_model.specs.commands.Check.{◌when◌, groups_full, texts_full}
+use Rattle.fsrm_model.specs.commands.GroupWork.{is_group_named, group_at, is_used, group_add_work, group_modify_work, group_delete_work, group_list_work}
+use Rattle.fsrm_model.specs.values.Limits.{most_excepts, most_groups, most_screens, most_text_bytes}
+use Rattle.fsrm_model.specs.values.Patterns.{group_number, group_name, is_object_name, are_members, are_non_members, is_group, has_name, new_group, regrouped, with_group, with_patterns, without_group}
+use Rattle.fsrm_model.specs.objects.Screens.{screen_folder, except_folder}
+use Rattle.fsrm_model.specs.values.Texts.{group_bytes, object_texts}
+use Rattle.fsrm_model.specs.nodes.Tree.{is_folder}
+use Rattle.fsrm_model.specs.store.Valid.{are_group_numbers, are_groups, is_sound_screen, is_sound_except}
 use Rattle.fsrm_model.proofs.commands.Orderly.{IsStill, KeepsValid, change_still, show_still, bare, first_none, when_none}
 use Rattle.fsrm_model.proofs.commands.ValueParts.{new_filegroup_parts, filegroup_change_parts}
 use Rattle.fsrm_model.proofs.thresholds.KeptLaws.{sum_by-less}
@@ -30,7 +30,7 @@ use Rattle.fsrm_model.proofs.valid.NamesApart.{named_parts, named-new, named-cha
 use Rattle.fsrm_model.proofs.valid.RowsKept.{all_stay, nothing_followed, screens_followed}
 use Rattle.fsrm_model.proofs.valid.ScreensKept.{HasAll, screen_parts, screen_joined, screens_stay, excepts_stay, table_apart, numbers_without}
 use Rattle.fsrm_model.proofs.journal.Alike.{WorksAlike, alike, lasting_alike, texts_same}
-use Rattle.fsrm_model.specs.Lasting.{lasting}
+use Rattle.fsrm_model.specs.store.Lasting.{lasting}
 
 -- a group of these values
 is_group_of : (number : ℕ) (name : List ℕ) (members non_members : List (List ℕ)) → number < most_groups → is_object_name name ≡ true → are_members members ≡ true → are_non_members non_members ≡ true → is_group (record { number = number; name = name; members = members; non_members = non_members }) ≡ true

@@ -10,16 +10,16 @@ use Rattle.fsrm_model.specs.declared.row.Capacity.{Capacity}
 use Rattle.fsrm_model.specs.declared.row.NodeRow.{NodeRow}
 use Rattle.fsrm_model.specs.declared.row.QuotaRow.{QuotaRow}
 use Rattle.fsrm_model.specs.declared.row.Rows.{Rows}
-use Rattle.fsrm_model.specs.Check.{◌when◌, first, table_full, texts_full}
-use Rattle.fsrm_model.specs.Exceeds.{IsOver}
-use Rattle.fsrm_model.specs.FileOps.{target, target_folder, new_node, resized, touched, placed, plain}
-use Rattle.fsrm_model.specs.FileWork.{judged_name, blocked, move_checks, remove_checks, file_checks, file_effect}
+use Rattle.fsrm_model.specs.commands.Check.{◌when◌, first, table_full, texts_full}
+use Rattle.fsrm_model.specs.meaning.Exceeds.{IsOver}
+use Rattle.fsrm_model.specs.nodes.FileOps.{target, target_folder, new_node, resized, touched, placed, plain}
+use Rattle.fsrm_model.specs.commands.FileWork.{judged_name, blocked, move_checks, remove_checks, file_checks, file_effect}
 use Rattle.fsrm_base.specs.Keyed.{has_row, with_row}
-use Rattle.fsrm_model.specs.Leads.{leads_to_file}
-use Rattle.fsrm_model.specs.Quota.{folder_of, quota_of, counts, refuses, over, deepest, exceeded}
-use Rattle.fsrm_model.specs.Space.{space}
-use Rattle.fsrm_model.specs.Tree.{number, is_folder, chain, is_under, usage, last_name, fresh}
-use Rattle.fsrm_model.specs.Valid.{IsValid}
+use Rattle.fsrm_model.specs.nodes.Leads.{leads_to_file}
+use Rattle.fsrm_model.specs.objects.Quota.{folder_of, quota_of, counts, refuses, over, deepest, exceeded}
+use Rattle.fsrm_model.specs.values.Space.{space}
+use Rattle.fsrm_model.specs.nodes.Tree.{number, is_folder, chain, is_under, usage, last_name, fresh}
+use Rattle.fsrm_model.specs.store.Valid.{IsValid}
 use Rattle.fsrm_base.proofs.TestLaws.{is_or_not, lt_is, clash, or_later, eq_is}
 use Rattle.fsrm_model.proofs.nodes.ChainLaws.{IsTree, Has, chain-new_other, usage-new}
 use Rattle.fsrm_base.specs.Numbers.{is_in}

@@ -13,25 +13,25 @@ use Rattle.fsrm_model.specs.declared.row.Capacity.{Capacity}
 use Rattle.fsrm_model.specs.declared.row.NodeRow.{NodeRow}
 use Rattle.fsrm_model.specs.declared.row.QuotaRow.{QuotaRow}
 use Rattle.fsrm_model.specs.declared.row.Rows.{Rows}
-use Rattle.fsrm_model.specs.Audits.{audited}
-use Rattle.fsrm_model.specs.Check.{Check, ◌when◌, first}
-use Rattle.fsrm_model.specs.Exceeds.{Exceeds}
-use Rattle.fsrm_model.specs.DueActions.{due, due_refused, due_screen}
-use Rattle.fsrm_model.specs.Exceptions.{run_by_refusal, may_leave, noted, left_with, left_after}
-use Rattle.fsrm_model.specs.Lasting.{lasting}
-use Rattle.fsrm_model.specs.Name.{is_name}
-use Rattle.fsrm_model.specs.Limits.{latest_moment}
-use Rattle.fsrm_model.specs.Named.{IsNamed}
-use Rattle.fsrm_model.specs.QuotaStates.{followed}
+use Rattle.fsrm_model.specs.objects.Audits.{audited}
+use Rattle.fsrm_model.specs.commands.Check.{Check, ◌when◌, first}
+use Rattle.fsrm_model.specs.meaning.Exceeds.{Exceeds}
+use Rattle.fsrm_model.specs.objects.DueActions.{due, due_refused, due_screen}
+use Rattle.fsrm_model.specs.meaning.Exceptions.{run_by_refusal, may_leave, noted, left_with, left_after}
+use Rattle.fsrm_model.specs.store.Lasting.{lasting}
+use Rattle.fsrm_model.specs.values.Name.{is_name}
+use Rattle.fsrm_model.specs.values.Limits.{latest_moment}
+use Rattle.fsrm_model.specs.meaning.Named.{IsNamed}
+use Rattle.fsrm_model.specs.objects.QuotaStates.{followed}
 use Rattle.fsrm_base.specs.Keyed.{has_row}
-use Rattle.fsrm_model.specs.Quota.{folder_of, peaked, peaks}
-use Rattle.fsrm_model.specs.Reached.{reached, crossed}
-use Rattle.fsrm_model.specs.Runs.{run_quota, entry_of, ran}
-use Rattle.fsrm_model.specs.Screens.{screen_folder}
-use Rattle.fsrm_model.specs.Step.{Stepped, Acted, acted, screened_by, screened, ran_if_any, refused_leaving, refused, decided, lasted, unlasting}
-use Rattle.fsrm_model.specs.Tree.{number, usage}
-use Rattle.fsrm_model.specs.Valid.{is_empty, IsValid}
-use Rattle.fsrm_model.specs.Work.{Work, Judged}
+use Rattle.fsrm_model.specs.objects.Quota.{folder_of, peaked, peaks}
+use Rattle.fsrm_model.specs.objects.Reached.{reached, crossed}
+use Rattle.fsrm_model.specs.objects.Runs.{run_quota, entry_of, ran}
+use Rattle.fsrm_model.specs.objects.Screens.{screen_folder}
+use Rattle.fsrm_model.specs.commands.Step.{Stepped, Acted, acted, screened_by, screened, ran_if_any, refused_leaving, refused, decided, lasted, unlasting}
+use Rattle.fsrm_model.specs.nodes.Tree.{number, usage}
+use Rattle.fsrm_model.specs.store.Valid.{is_empty, IsValid}
+use Rattle.fsrm_model.specs.commands.Work.{Work, Judged}
 use Rattle.fsrm_base.proofs.Look.{found_has}
 use Rattle.fsrm_model.proofs.commands.Ends.{refused_cases, screened_nodes, outcome_kept, nodes_kept}
 use Rattle.fsrm_model.proofs.commands.Orderly.{IsAnswer, IsBlocked, IsCheck, IsWithin, KeepsLimits, KeepsValid, IsAsked, NamesJudged, IsOrderly, bare, first_check, first_none, none_rises}

@@ -9,30 +9,30 @@ use Rattle.fsrm_model.specs.declared.row.QuotaRow.{QuotaRow}
 use Rattle.fsrm_model.specs.declared.row.Rows.{Rows}
 use Rattle.fsrm_model.specs.declared.row.TemplateRow.{TemplateRow}
 use Rattle.fsrm_model.specs.declared.row.Threshold.{Threshold}
-use Rattle.fsrm_model.specs.Commands.{is_new_quota, is_quota_change}
-use Rattle.fsrm_model.specs.Check.{first, ◌when◌, table_full, texts_full}
-use Rattle.fsrm_model.specs.FileOps.{target}
+use Rattle.fsrm_model.specs.commands.Commands.{is_new_quota, is_quota_change}
+use Rattle.fsrm_model.specs.commands.Check.{first, ◌when◌, table_full, texts_full}
+use Rattle.fsrm_model.specs.nodes.FileOps.{target}
 use Rattle.fsrm_base.specs.Keyed.{has_row, with_row, with_change, without_row}
-use Rattle.fsrm_model.specs.Leads.{leads_to_folder}
-use Rattle.fsrm_model.specs.Quota.{folder_of, quota_of, is_limit, counts}
-use Rattle.fsrm_model.specs.QuotaWork.{quota_checks, first_quota, source_of, add_work, modify_work, delete_work, reset_work, list_work, modified, remarked, changed_by, thresholds_of, reset}
+use Rattle.fsrm_model.specs.nodes.Leads.{leads_to_folder}
+use Rattle.fsrm_model.specs.objects.Quota.{folder_of, quota_of, is_limit, counts}
+use Rattle.fsrm_model.specs.commands.QuotaWork.{quota_checks, first_quota, source_of, add_work, modify_work, delete_work, reset_work, list_work, modified, remarked, changed_by, thresholds_of, reset}
 use Rattle.fsrm_base.proofs.Look.{found_has, found_own, is_some-find, has_row-change}
 use Rattle.fsrm_base.proofs.Members.{all_found}
 use Rattle.fsrm_model.proofs.commands.Orderly.{IsStill, change_still, show_still, bare, first_none, when_none, KeepsValid}
 use Rattle.std.specs.Option.{option_map_or}
 use Rattle.fsrm_model.specs.declared.row.QuotaState.{QuotaState}
 use Rattle.fsrm_model.specs.declared.row.QuotaState.TheVariants.{Disabled}
-use Rattle.fsrm_model.specs.Limits.{latest_moment, most_quotas, most_templates, most_text_bytes}
-use Rattle.fsrm_model.specs.Name.{is_named}
-use Rattle.fsrm_model.specs.Templates.{template_number, template_name, is_template}
-use Rattle.fsrm_model.specs.Texts.{quota_bytes, object_texts}
-use Rattle.fsrm_model.specs.Thresholds.{are_thresholds, are_too_many, may_be_removed, changed_thresholds}
-use Rattle.fsrm_model.specs.Tree.{is_folder, usage}
+use Rattle.fsrm_model.specs.values.Limits.{latest_moment, most_quotas, most_templates, most_text_bytes}
+use Rattle.fsrm_model.specs.values.Name.{is_named}
+use Rattle.fsrm_model.specs.objects.Templates.{template_number, template_name, is_template}
+use Rattle.fsrm_model.specs.values.Texts.{quota_bytes, object_texts}
+use Rattle.fsrm_model.specs.objects.Thresholds.{are_thresholds, are_too_many, may_be_removed, changed_thresholds}
+use Rattle.fsrm_model.specs.nodes.Tree.{is_folder, usage}
 use Rattle.fsrm_model.proofs.thresholds.KeptLaws.{fewer_texts, same_texts, sum_by-same, sum_by-less}
 use Rattle.fsrm_model.proofs.thresholds.ThresholdLaws.{changed_kept}
 use Rattle.fsrm_base.specs.Numbers.{without_number}
-use Rattle.fsrm_model.specs.QuotaStates.{start, state_after, queued, in_state, with_quota, is_disabled, state_of, without_quota}
-use Rattle.fsrm_model.specs.Valid.{is_moment, has_source, are_templates, AreQuotas}
+use Rattle.fsrm_model.specs.objects.QuotaStates.{start, state_after, queued, in_state, with_quota, is_disabled, state_of, without_quota}
+use Rattle.fsrm_model.specs.store.Valid.{is_moment, has_source, are_templates, AreQuotas}
 use Rattle.fsrm_model.proofs.commands.FileParts.{folder_at}
 use Rattle.fsrm_model.proofs.commands.ValueParts.{new_quota_parts, quota_change_parts}
 use Rattle.fsrm_base.proofs.Order.{length-with_row}
@@ -45,7 +45,7 @@ use Rattle.fsrm_base.proofs.TestLaws.{ge_is, le_test}
 use Rattle.fsrm_model.proofs.journal.KeptQuotas.{Keeps, counts_flagged, flagged_twice, kept, kept_change, kept_twice, kept_with, kept_without}
 use Rattle.fsrm_model.proofs.journal.Alike.{RowsAlike, WorksAlike, alike, lasting_alike, quotas_alike, table_same, texts_same, with_state_alike}
 use Rattle.fsrm_model.proofs.journal.KeptEnds.{disabled_lasting, none_lasting, quota_lasting, some_lasting, state_lasting}
-use Rattle.fsrm_model.specs.Lasting.{flagged, flagged_quota, lasting}
+use Rattle.fsrm_model.specs.store.Lasting.{flagged, flagged_quota, lasting}
 
 pub add_still : (K : Capacity) (R : Rows) (moment : ℕ) (new : NewQuota) → IsStill K R (add_work R moment new)
 add_still K R moment new =

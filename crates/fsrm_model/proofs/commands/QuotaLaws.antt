@@ -12,16 +12,16 @@ use Rattle.fsrm_model.specs.declared.row.Capacity.{Capacity}
 use Rattle.fsrm_model.specs.declared.row.NodeRow.{NodeRow}
 use Rattle.fsrm_model.specs.declared.row.QuotaRow.{QuotaRow}
 use Rattle.fsrm_model.specs.declared.row.Rows.{Rows}
-use Rattle.fsrm_model.specs.Check.{◌when◌, first}
-use Rattle.fsrm_model.specs.Exceeds.{IsOver, Exceeds}
+use Rattle.fsrm_model.specs.commands.Check.{◌when◌, first}
+use Rattle.fsrm_model.specs.meaning.Exceeds.{IsOver, Exceeds}
 use Rattle.fsrm_base.specs.Keyed.{is_ascending, has_row}
-use Rattle.fsrm_model.specs.Quota.{folder_of, quota_of, counts, refuses, over, deepest, exceeded, peaked, peaks}
-use Rattle.fsrm_model.specs.QuotaStates.{followed}
-use Rattle.fsrm_model.specs.DueActions.{due}
-use Rattle.fsrm_model.specs.Runs.{run_quota}
-use Rattle.fsrm_model.specs.Step.{Acted, step, work, decided, lasted, unlasting, acted, screened_by, screened}
-use Rattle.fsrm_model.specs.Tree.{usage, is_under}
-use Rattle.fsrm_model.specs.Work.{Work}
+use Rattle.fsrm_model.specs.objects.Quota.{folder_of, quota_of, counts, refuses, over, deepest, exceeded, peaked, peaks}
+use Rattle.fsrm_model.specs.objects.QuotaStates.{followed}
+use Rattle.fsrm_model.specs.objects.DueActions.{due}
+use Rattle.fsrm_model.specs.objects.Runs.{run_quota}
+use Rattle.fsrm_model.specs.commands.Step.{Acted, step, work, decided, lasted, unlasting, acted, screened_by, screened}
+use Rattle.fsrm_model.specs.nodes.Tree.{usage, is_under}
+use Rattle.fsrm_model.specs.commands.Work.{Work}
 use Rattle.fsrm_base.proofs.Look.{clash, found_passes, found_own, found_key, find-map}
 use Rattle.fsrm_base.proofs.Members.{all_found}
 use Rattle.fsrm_base.proofs.TestLaws.{implied}

@@ -9,26 +9,26 @@ use Rattle.fsrm_model.specs.declared.row.QuotaRow.{QuotaRow}
 use Rattle.fsrm_model.specs.declared.row.QuotaState.{QuotaState}
 use Rattle.fsrm_model.specs.declared.row.QuotaState.TheVariants.{Complete, Disabled, Rebuilding, Incomplete}
 use Rattle.fsrm_model.specs.declared.row.Rows.{Rows}
-use Rattle.fsrm_model.specs.Check.{◌when◌, first}
-use Rattle.fsrm_model.specs.FileOps.{target}
+use Rattle.fsrm_model.specs.commands.Check.{◌when◌, first}
+use Rattle.fsrm_model.specs.nodes.FileOps.{target}
 use Rattle.fsrm_base.specs.Keyed.{has_row, is_ascending, with_change}
-use Rattle.fsrm_model.specs.Lasting.{flagged, flagged_quota, lasting}
-use Rattle.fsrm_model.specs.Leads.{leads_to_folder}
+use Rattle.fsrm_model.specs.store.Lasting.{flagged, flagged_quota, lasting}
+use Rattle.fsrm_model.specs.nodes.Leads.{leads_to_folder}
 use Rattle.fsrm_base.specs.Numbers.{is_in}
-use Rattle.fsrm_model.specs.Quota.{folder_of, quota_of, counts, is_complete}
-use Rattle.fsrm_model.specs.QuotaStates.{head, in_state, is_disabled, state_of, with_state, same_head, scan_begun, queued, followed}
-use Rattle.fsrm_model.specs.Scan.{visits}
-use Rattle.fsrm_model.specs.ScanWork.{scan_work, step_work}
+use Rattle.fsrm_model.specs.objects.Quota.{folder_of, quota_of, counts, is_complete}
+use Rattle.fsrm_model.specs.objects.QuotaStates.{head, in_state, is_disabled, state_of, with_state, same_head, scan_begun, queued, followed}
+use Rattle.fsrm_model.specs.objects.Scan.{visits}
+use Rattle.fsrm_model.specs.commands.ScanWork.{scan_work, step_work}
 use Rattle.fsrm_model.specs.declared.command.Outcome.TheVariants.{Scanned}
-use Rattle.fsrm_model.specs.Tree.{number, usage}
-use Rattle.fsrm_model.specs.Replays.{is_finished_scan}
-use Rattle.fsrm_model.specs.Valid.{AreQuotas, IsValid}
+use Rattle.fsrm_model.specs.nodes.Tree.{number, usage}
+use Rattle.fsrm_model.specs.store.Replays.{is_finished_scan}
+use Rattle.fsrm_model.specs.store.Valid.{AreQuotas, IsValid}
 use Rattle.fsrm_model.proofs.commands.Ends.{step_nodes}
 use Rattle.fsrm_base.proofs.Look.{eq_same, is_some-find}
 use Rattle.fsrm_model.proofs.commands.Orderly.{IsStill, bare, first_none, when_none, KeepsValid}
 use Rattle.fsrm_base.proofs.RowLaws.{change_same, change_none}
 use Rattle.fsrm_model.proofs.valid.ValidLaws.{folder_has}
-use Rattle.fsrm_model.specs.ValidScans.{AreLeft}
+use Rattle.fsrm_model.specs.store.ValidScans.{AreLeft}
 use Rattle.fsrm_model.proofs.valid.QueueKept.{queue_changed}
 use Rattle.fsrm_model.proofs.commands.QuotaCommands.{state_quotas, state_texts, quota_there, quota_alike}
 use Rattle.fsrm_model.proofs.valid.RowsKept.{valid_with, all_stay, same_heads, left_followed, left_visits, quotas_followed, head_in}

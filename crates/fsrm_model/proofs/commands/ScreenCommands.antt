@@ -20,18 +20,18 @@ use Rattle.fsrm_model.specs.declared.row.ExceptRow.{ExceptRow}
 use Rattle.fsrm_model.specs.declared.row.GroupRow.{GroupRow}
 use Rattle.fsrm_model.specs.declared.row.Rows.{Rows}
 use Rattle.fsrm_model.specs.declared.row.ScreenRow.{ScreenRow}
-use Rattle.fsrm_model.specs.Check.{◌when◌, screens_full, excepts_full, texts_full}
-use Rattle.fsrm_model.specs.Commands.{are_some_names, is_new_screen, is_new_exception}
-use Rattle.fsrm_model.specs.FileOps.{target}
-use Rattle.fsrm_model.specs.Leads.{leads_to_folder}
-use Rattle.fsrm_model.specs.Limits.{latest_moment, most_actions, most_excepts, most_groups, most_screen_groups, most_screens, most_text_bytes}
-use Rattle.fsrm_model.specs.Patterns.{group_number, is_object_name, is_group, has_name, number_named, are_apart}
-use Rattle.fsrm_model.specs.Screens.{screen_folder, except_folder, screen_of, except_of}
-use Rattle.fsrm_model.specs.ScreenWork.{are_named, numbers_named, with_last, changed_groups, may_be_taken, are_many_groups, new_screen, screen_add_work, rescreened, groups_of, screen_modify_work, screen_delete_work, screen_list_work, new_except, except_add_work, except_delete_work, except_list_work}
-use Rattle.fsrm_model.specs.Texts.{action_bytes, object_texts}
-use Rattle.fsrm_model.specs.Thresholds.{is_action, is_new_action, is_kept_action}
-use Rattle.fsrm_model.specs.Tree.{is_folder}
-use Rattle.fsrm_model.specs.Valid.{are_groups, are_group_numbers, is_sound_screen, is_sound_except, are_screens}
+use Rattle.fsrm_model.specs.commands.Check.{◌when◌, screens_full, excepts_full, texts_full}
+use Rattle.fsrm_model.specs.commands.Commands.{are_some_names, is_new_screen, is_new_exception}
+use Rattle.fsrm_model.specs.nodes.FileOps.{target}
+use Rattle.fsrm_model.specs.nodes.Leads.{leads_to_folder}
+use Rattle.fsrm_model.specs.values.Limits.{latest_moment, most_actions, most_excepts, most_groups, most_screen_groups, most_screens, most_text_bytes}
+use Rattle.fsrm_model.specs.values.Patterns.{group_number, is_object_name, is_group, has_name, number_named, are_apart}
+use Rattle.fsrm_model.specs.objects.Screens.{screen_folder, except_folder, screen_of, except_of}
+use Rattle.fsrm_model.specs.commands.ScreenWork.{are_named, numbers_named, with_last, changed_groups, may_be_taken, are_many_groups, new_screen, screen_add_work, rescreened, groups_of, screen_modify_work, screen_delete_work, screen_list_work, new_except, except_add_work, except_delete_work, except_list_work}
+use Rattle.fsrm_model.specs.values.Texts.{action_bytes, object_texts}
+use Rattle.fsrm_model.specs.objects.Thresholds.{is_action, is_new_action, is_kept_action}
+use Rattle.fsrm_model.specs.nodes.Tree.{is_folder}
+use Rattle.fsrm_model.specs.store.Valid.{are_groups, are_group_numbers, is_sound_screen, is_sound_except, are_screens}
 use Rattle.fsrm_model.proofs.commands.FileParts.{folder_at}
 use Rattle.fsrm_model.proofs.commands.Orderly.{IsStill, KeepsValid, change_still, show_still, bare, first_none, when_none, not_false}
 use Rattle.fsrm_model.proofs.commands.ValueParts.{new_screen_parts}
@@ -41,7 +41,7 @@ use Rattle.fsrm_model.proofs.valid.QueueKept.{once_more}
 use Rattle.fsrm_model.proofs.valid.RowsKept.{nothing_followed, screens_followed}
 use Rattle.fsrm_model.proofs.valid.ScreensKept.{all_weaker, number_parts, numbers_joined, screen_at, screen_parts, screen_joined, table-new, table-change, table-without, table_apart, table_stays}
 use Rattle.fsrm_model.proofs.journal.Alike.{WorksAlike, alike, lasting_alike, texts_same}
-use Rattle.fsrm_model.specs.Lasting.{lasting}
+use Rattle.fsrm_model.specs.store.Lasting.{lasting}
 
 -- ---- the groups that are named
 -- a group that has a name is there

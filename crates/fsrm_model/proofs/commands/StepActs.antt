@@ -16,23 +16,23 @@ use Rattle.fsrm_model.specs.declared.row.QuotaRow.{QuotaRow}
 use Rattle.fsrm_model.specs.declared.row.Rows.{Rows}
 use Rattle.fsrm_model.specs.declared.row.ScreenRow.{ScreenRow}
 use Rattle.fsrm_base.specs.Keyed.{row_of, is_ascending}
-use Rattle.fsrm_model.specs.Acts.{of_screens, of_quotas, has_act, actions_of, IsAct, are_in_order}
-use Rattle.fsrm_model.specs.Audits.{audited}
-use Rattle.fsrm_model.specs.Check.{◌when◌, first}
-use Rattle.fsrm_model.specs.DueActions.{due, due_refused, due_screen}
-use Rattle.fsrm_model.specs.Exceptions.{left_with}
-use Rattle.fsrm_model.specs.Limits.{latest_moment}
-use Rattle.fsrm_model.specs.Name.{is_name}
-use Rattle.fsrm_model.specs.Quota.{folder_of, quota_of, counts, peaked, peaks}
-use Rattle.fsrm_model.specs.QuotaStates.{followed}
-use Rattle.fsrm_model.specs.Raises.{are_ascending}
-use Rattle.fsrm_model.specs.Runs.{ran}
-use Rattle.fsrm_model.specs.Screens.{screen_folder, screen_of}
-use Rattle.fsrm_model.specs.Step.{Stepped, Acted, unacted, acted, screened_by, screened, ran_if_any, refused_leaving, refused, decided, lasted, unlasting}
-use Rattle.fsrm_model.specs.Thresholds.{percent_of, actions_at, is_threshold, are_too_many, are_thresholds}
-use Rattle.fsrm_model.specs.Tree.{usage}
-use Rattle.fsrm_model.specs.Valid.{IsValid}
-use Rattle.fsrm_model.specs.Work.{Work, Judged}
+use Rattle.fsrm_model.specs.objects.Acts.{of_screens, of_quotas, has_act, actions_of, IsAct, are_in_order}
+use Rattle.fsrm_model.specs.objects.Audits.{audited}
+use Rattle.fsrm_model.specs.commands.Check.{◌when◌, first}
+use Rattle.fsrm_model.specs.objects.DueActions.{due, due_refused, due_screen}
+use Rattle.fsrm_model.specs.meaning.Exceptions.{left_with}
+use Rattle.fsrm_model.specs.values.Limits.{latest_moment}
+use Rattle.fsrm_model.specs.values.Name.{is_name}
+use Rattle.fsrm_model.specs.objects.Quota.{folder_of, quota_of, counts, peaked, peaks}
+use Rattle.fsrm_model.specs.objects.QuotaStates.{followed}
+use Rattle.fsrm_model.specs.meaning.Raises.{are_ascending}
+use Rattle.fsrm_model.specs.objects.Runs.{ran}
+use Rattle.fsrm_model.specs.objects.Screens.{screen_folder, screen_of}
+use Rattle.fsrm_model.specs.commands.Step.{Stepped, Acted, unacted, acted, screened_by, screened, ran_if_any, refused_leaving, refused, decided, lasted, unlasting}
+use Rattle.fsrm_model.specs.objects.Thresholds.{percent_of, actions_at, is_threshold, are_too_many, are_thresholds}
+use Rattle.fsrm_model.specs.nodes.Tree.{usage}
+use Rattle.fsrm_model.specs.store.Valid.{IsValid}
+use Rattle.fsrm_model.specs.commands.Work.{Work, Judged}
 use Rattle.fsrm_base.proofs.Look.{find-map}
 use Rattle.fsrm_base.proofs.Members.{all_pass}
 use Rattle.fsrm_base.proofs.TestLaws.{both, both_true}

@@ -16,17 +16,17 @@ use Rattle.fsrm_model.specs.declared.row.Capacity.{Capacity}
 use Rattle.fsrm_model.specs.declared.row.QuotaRow.{QuotaRow}
 use Rattle.fsrm_model.specs.declared.row.Rows.{Rows}
 use Rattle.fsrm_model.specs.declared.row.TemplateRow.{TemplateRow}
-use Rattle.fsrm_model.specs.Commands.{is_new_template, is_template_change}
-use Rattle.fsrm_model.specs.Check.{◌when◌, templates_full, texts_full}
-use Rattle.fsrm_model.specs.Limits.{most_templates, most_text_bytes}
-use Rattle.fsrm_model.specs.Name.{is_named}
-use Rattle.fsrm_model.specs.Quota.{folder_of}
-use Rattle.fsrm_model.specs.QuotaStates.{followed}
-use Rattle.fsrm_model.specs.Templates.{template_number, template_name, template_named, is_template, is_derived, without_source, is_reached, as_template, updated}
-use Rattle.fsrm_model.specs.TemplateWork.{number_in, thresholds_in, new_template, template_add_work, retemplated, updated_quotas, template_modify_work, is_applied, template_delete_work, template_list_work}
-use Rattle.fsrm_model.specs.Texts.{quota_bytes, template_bytes, object_texts}
-use Rattle.fsrm_model.specs.Thresholds.{are_too_many, may_be_removed, changed_thresholds}
-use Rattle.fsrm_model.specs.Valid.{IsValid}
+use Rattle.fsrm_model.specs.commands.Commands.{is_new_template, is_template_change}
+use Rattle.fsrm_model.specs.commands.Check.{◌when◌, templates_full, texts_full}
+use Rattle.fsrm_model.specs.values.Limits.{most_templates, most_text_bytes}
+use Rattle.fsrm_model.specs.values.Name.{is_named}
+use Rattle.fsrm_model.specs.objects.Quota.{folder_of}
+use Rattle.fsrm_model.specs.objects.QuotaStates.{followed}
+use Rattle.fsrm_model.specs.objects.Templates.{template_number, template_name, template_named, is_template, is_derived, without_source, is_reached, as_template, updated}
+use Rattle.fsrm_model.specs.commands.TemplateWork.{number_in, thresholds_in, new_template, template_add_work, retemplated, updated_quotas, template_modify_work, is_applied, template_delete_work, template_list_work}
+use Rattle.fsrm_model.specs.values.Texts.{quota_bytes, template_bytes, object_texts}
+use Rattle.fsrm_model.specs.objects.Thresholds.{are_too_many, may_be_removed, changed_thresholds}
+use Rattle.fsrm_model.specs.store.Valid.{IsValid}
 use Rattle.fsrm_model.proofs.commands.Orderly.{IsStill, KeepsValid, change_still, show_still, bare, first_none, when_none}
 use Rattle.fsrm_model.proofs.commands.QuotaCommands.{limit_kept}
 use Rattle.fsrm_model.proofs.commands.ValueParts.{IsTemplateChange, new_template_parts, template_change_parts}
@@ -41,7 +41,7 @@ use Rattle.fsrm_model.proofs.valid.TemplatesKept.{HasTemplates, template_parts, 
 use Rattle.fsrm_model.specs.declared.command.Update.TheVariants.{All, Keep, Matching}
 use Rattle.fsrm_model.proofs.journal.KeptQuotas.{Keeps, SameKept, kept, kept_map, kept_twice, quota_twice}
 use Rattle.fsrm_model.proofs.journal.Alike.{WorksAlike, alike, lasting_alike, quotas_alike, texts_same}
-use Rattle.fsrm_model.specs.Lasting.{flagged_quota, lasting}
+use Rattle.fsrm_model.specs.store.Lasting.{flagged_quota, lasting}
 
 pub template_add_still : (K : Capacity) (R : Rows) (new : NewTemplate) → IsStill K R (template_add_work R new)
 template_add_still K R new =

@@ -14,12 +14,12 @@ use Rattle.fsrm_model.specs.declared.command.NewThresholds.{NewThresholds}
 use Rattle.fsrm_model.specs.declared.command.QuotaChange.{QuotaChange}
 use Rattle.fsrm_model.specs.declared.command.ScreenChange.{ScreenChange}
 use Rattle.fsrm_model.specs.declared.command.TemplateChange.{TemplateChange}
-use Rattle.fsrm_model.specs.Commands.{are_some_names, are_new_thresholds, is_new_quota, is_quota_change, is_new_template, is_template_change, is_new_autoquota, is_new_filegroup, is_filegroup_change, is_new_screen, is_screen_change}
-use Rattle.fsrm_model.specs.Limits.{most_excluded}
-use Rattle.fsrm_model.specs.Name.{is_name}
-use Rattle.fsrm_model.specs.Patterns.{is_object_name, are_members, are_non_members}
-use Rattle.fsrm_model.specs.Quota.{is_limit}
-use Rattle.fsrm_model.specs.Thresholds.{is_percent, is_new_action, is_notice}
+use Rattle.fsrm_model.specs.commands.Commands.{are_some_names, are_new_thresholds, is_new_quota, is_quota_change, is_new_template, is_template_change, is_new_autoquota, is_new_filegroup, is_filegroup_change, is_new_screen, is_screen_change}
+use Rattle.fsrm_model.specs.values.Limits.{most_excluded}
+use Rattle.fsrm_model.specs.values.Name.{is_name}
+use Rattle.fsrm_model.specs.values.Patterns.{is_object_name, are_members, are_non_members}
+use Rattle.fsrm_model.specs.objects.Quota.{is_limit}
+use Rattle.fsrm_model.specs.objects.Thresholds.{is_percent, is_new_action, is_notice}
 
 -- ---- quotas
 pub record AreNewThresholds (new : NewThresholds) : Type 0 where

@@ -7,16 +7,16 @@ use Rattle.fsrm_model.specs.declared.command.Outcome.{Outcome}
 use Rattle.fsrm_model.specs.declared.command.Refusal.TheVariants.{TableFull, TextsFull}
 use Rattle.fsrm_model.specs.declared.row.QuotaRow.{QuotaRow}
 use Rattle.fsrm_model.specs.declared.row.Rows.{Rows}
-use Rattle.fsrm_model.specs.Check.{Check, ◌when◌, table_full, texts_full}
-use Rattle.fsrm_model.specs.Lasting.{lasting, flagged, flagged_quota}
-use Rattle.fsrm_model.specs.Limits.{most_quotas, most_text_bytes}
-use Rattle.fsrm_model.specs.Texts.{template_bytes, auto_bytes, group_bytes, action_bytes, job_bytes}
-use Rattle.fsrm_model.specs.Work.{Work, asks}
+use Rattle.fsrm_model.specs.commands.Check.{Check, ◌when◌, table_full, texts_full}
+use Rattle.fsrm_model.specs.store.Lasting.{lasting, flagged, flagged_quota}
+use Rattle.fsrm_model.specs.values.Limits.{most_quotas, most_text_bytes}
+use Rattle.fsrm_model.specs.values.Texts.{template_bytes, auto_bytes, group_bytes, action_bytes, job_bytes}
+use Rattle.fsrm_model.specs.commands.Work.{Work, asks}
 use Rattle.fsrm_model.proofs.journal.KeptEnds.{lasting_twice}
 use Rattle.fsrm_model.proofs.journal.KeptQuotas.{SameKept, kept_bytes, in_state_keeps, same_change, state_kept}
 use Rattle.fsrm_model.specs.declared.row.QuotaState.{QuotaState}
-use Rattle.fsrm_model.specs.Quota.{folder_of}
-use Rattle.fsrm_model.specs.QuotaStates.{in_state, queued, with_state}
+use Rattle.fsrm_model.specs.objects.Quota.{folder_of}
+use Rattle.fsrm_model.specs.objects.QuotaStates.{in_state, queued, with_state}
 use Rattle.fsrm_base.specs.Keyed.{with_change}
 
 -- the same is kept of these rows and those

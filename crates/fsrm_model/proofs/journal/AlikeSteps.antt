@@ -10,13 +10,13 @@ use Rattle.fsrm_model.specs.declared.command.Refusal.{Refusal}
 use Rattle.fsrm_model.specs.declared.command.Refusal.TheVariants.{ClockBack, ScreenBlocked, QuotaExceeded}
 use Rattle.fsrm_model.specs.declared.row.Capacity.{Capacity}
 use Rattle.fsrm_model.specs.declared.row.Rows.{Rows}
-use Rattle.fsrm_model.specs.Check.{Check, ◌when◌, first}
-use Rattle.fsrm_model.specs.DueActions.{due_refused}
-use Rattle.fsrm_model.specs.Lasting.{lasting}
-use Rattle.fsrm_model.specs.QuotaStates.{followed}
-use Rattle.fsrm_model.specs.Runs.{ran}
-use Rattle.fsrm_model.specs.Step.{Stepped, Acted, acted, screened_by, screened, ran_if_any, refused_leaving, refused, decided, concluded, lasted, unlasting, step, work}
-use Rattle.fsrm_model.specs.Work.{Work, Judged}
+use Rattle.fsrm_model.specs.commands.Check.{Check, ◌when◌, first}
+use Rattle.fsrm_model.specs.objects.DueActions.{due_refused}
+use Rattle.fsrm_model.specs.store.Lasting.{lasting}
+use Rattle.fsrm_model.specs.objects.QuotaStates.{followed}
+use Rattle.fsrm_model.specs.objects.Runs.{ran}
+use Rattle.fsrm_model.specs.commands.Step.{Stepped, Acted, acted, screened_by, screened, ran_if_any, refused_leaving, refused, decided, concluded, lasted, unlasting, step, work}
+use Rattle.fsrm_model.specs.commands.Work.{Work, Judged}
 use Rattle.fsrm_model.proofs.journal.Alike.{RowsAlike, lasting_alike, same_checks, WorksAlike}
 use Rattle.fsrm_model.proofs.journal.KeptEnds.{lasting_twice, due_refused_lasting, ran_lasting, lasting_acted, concluded_lasting, screened_lasting}
 

@@ -11,18 +11,18 @@ use Rattle.fsrm_model.specs.declared.command.Entry.{Entry}
 use Rattle.fsrm_model.specs.declared.command.Entry.TheVariants.{Order, Finish}
 use Rattle.fsrm_model.specs.declared.row.Capacity.{Capacity}
 use Rattle.fsrm_model.specs.declared.row.Rows.{Rows}
-use Rattle.fsrm_model.specs.Commands.{paths, entry_bytes}
-use Rattle.fsrm_model.specs.Entry.{path_length}
-use Rattle.fsrm_model.specs.Lasting.{lasting}
-use Rattle.fsrm_model.specs.Limits.{latest_moment, longest_path, longest_entry}
-use Rattle.fsrm_model.specs.Line.{read_line}
-use Rattle.fsrm_model.specs.QuotaStates.{head}
-use Rattle.fsrm_model.specs.Reading.{Read}
-use Rattle.fsrm_model.specs.Replays.{finish, after_entry, replayed, recovered, is_scan_step, deed_entry, journal_entry, command_entries, read_entries, line_entries, entries_from, is_valid_entry, IsJournaled}
-use Rattle.fsrm_model.specs.Script.{Replied, replied, replied_to, fold_from, without_cr}
-use Rattle.fsrm_model.specs.Step.{step}
-use Rattle.fsrm_model.specs.Valid.{is_moment, IsValid}
-use Rattle.fsrm_model.specs.Valued.{is_deed, is_short_path, is_short, is_command}
+use Rattle.fsrm_model.specs.commands.Commands.{paths, entry_bytes}
+use Rattle.fsrm_model.specs.commands.Entry.{path_length}
+use Rattle.fsrm_model.specs.store.Lasting.{lasting}
+use Rattle.fsrm_model.specs.values.Limits.{latest_moment, longest_path, longest_entry}
+use Rattle.fsrm_model.specs.lines.Line.{read_line}
+use Rattle.fsrm_model.specs.objects.QuotaStates.{head}
+use Rattle.fsrm_model.specs.lines.Reading.{Read}
+use Rattle.fsrm_model.specs.store.Replays.{finish, after_entry, replayed, recovered, is_scan_step, deed_entry, journal_entry, command_entries, read_entries, line_entries, entries_from, is_valid_entry, IsJournaled}
+use Rattle.fsrm_model.specs.lines.Script.{Replied, replied, replied_to, fold_from, without_cr}
+use Rattle.fsrm_model.specs.commands.Step.{step}
+use Rattle.fsrm_model.specs.store.Valid.{is_moment, IsValid}
+use Rattle.fsrm_model.specs.store.Valued.{is_deed, is_short_path, is_short, is_command}
 use Rattle.fsrm_model.proofs.commands.EachCommand.{kept_alike, lasting_kept, step_valid}
 use Rattle.fsrm_model.proofs.journal.AlikeSteps.{StepsAlike}
 use Rattle.fsrm_model.proofs.journal.FinishLaws.{lasting_valid, finish_alike, finish_valid, step_finishes}

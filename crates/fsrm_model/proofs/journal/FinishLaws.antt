@@ -15,19 +15,19 @@ use Rattle.fsrm_model.specs.declared.row.QuotaRow.{QuotaRow}
 use Rattle.fsrm_model.specs.declared.row.QuotaState.{QuotaState}
 use Rattle.fsrm_model.specs.declared.row.QuotaState.TheVariants.{Complete, Disabled, Rebuilding, Incomplete}
 use Rattle.fsrm_model.specs.declared.row.Rows.{Rows}
-use Rattle.fsrm_model.specs.Check.{◌when◌, first}
-use Rattle.fsrm_model.specs.DueActions.{due}
-use Rattle.fsrm_model.specs.Lasting.{flagged, flagged_quota, lasting}
-use Rattle.fsrm_model.specs.Limits.{latest_moment}
-use Rattle.fsrm_model.specs.Quota.{folder_of, quota_of, peaks}
-use Rattle.fsrm_model.specs.QuotaStates.{head, is_rebuilding, state_of, with_state, followed}
-use Rattle.fsrm_model.specs.Replays.{is_unfinished, finished, finish}
-use Rattle.fsrm_model.specs.Scan.{visits}
-use Rattle.fsrm_model.specs.ScanWork.{step_work}
-use Rattle.fsrm_model.specs.Step.{Stepped, unacted, decided, lasted, unlasting, screened, step}
-use Rattle.fsrm_model.specs.Valid.{has_source, IsValid}
-use Rattle.fsrm_model.specs.ValidScans.{IsQueue}
-use Rattle.fsrm_model.specs.Work.{Work}
+use Rattle.fsrm_model.specs.commands.Check.{◌when◌, first}
+use Rattle.fsrm_model.specs.objects.DueActions.{due}
+use Rattle.fsrm_model.specs.store.Lasting.{flagged, flagged_quota, lasting}
+use Rattle.fsrm_model.specs.values.Limits.{latest_moment}
+use Rattle.fsrm_model.specs.objects.Quota.{folder_of, quota_of, peaks}
+use Rattle.fsrm_model.specs.objects.QuotaStates.{head, is_rebuilding, state_of, with_state, followed}
+use Rattle.fsrm_model.specs.store.Replays.{is_unfinished, finished, finish}
+use Rattle.fsrm_model.specs.objects.Scan.{visits}
+use Rattle.fsrm_model.specs.commands.ScanWork.{step_work}
+use Rattle.fsrm_model.specs.commands.Step.{Stepped, unacted, decided, lasted, unlasting, screened, step}
+use Rattle.fsrm_model.specs.store.Valid.{has_source, IsValid}
+use Rattle.fsrm_model.specs.store.ValidScans.{IsQueue}
+use Rattle.fsrm_model.specs.commands.Work.{Work}
 use Rattle.fsrm_model.proofs.commands.ScanCommands.{some_head, state_followed}
 use Rattle.fsrm_model.proofs.journal.Alike.{RowsAlike, lasting_alike, with_state_alike}
 use Rattle.fsrm_model.proofs.journal.AlikeSteps.{lasted_alike}

@@ -13,19 +13,19 @@ use Rattle.fsrm_model.specs.declared.row.NodeRow.{NodeRow}
 use Rattle.fsrm_model.specs.declared.row.QuotaRow.{QuotaRow}
 use Rattle.fsrm_model.specs.declared.row.Rows.{Rows}
 use Rattle.fsrm_base.proofs.Look.{find-map}
-use Rattle.fsrm_model.specs.DueActions.{quota_acts, due, due_refused, due_screen}
-use Rattle.fsrm_model.specs.Lasting.{flagged_quota, lasting, flagged}
-use Rattle.fsrm_model.specs.Quota.{quota_of, counts, over, deepest, exceeded, refuses, peaked, peaks}
-use Rattle.fsrm_model.specs.Reached.{reached, crossed, has_reached}
-use Rattle.fsrm_model.specs.Runs.{run_quota, ran}
-use Rattle.fsrm_model.specs.Step.{Acted, screened, concluded}
-use Rattle.fsrm_model.specs.Tree.{usage, is_under}
-use Rattle.fsrm_model.specs.Work.{Judged}
-use Rattle.fsrm_model.specs.Audits.{audited}
+use Rattle.fsrm_model.specs.objects.DueActions.{quota_acts, due, due_refused, due_screen}
+use Rattle.fsrm_model.specs.store.Lasting.{flagged_quota, lasting, flagged}
+use Rattle.fsrm_model.specs.objects.Quota.{quota_of, counts, over, deepest, exceeded, refuses, peaked, peaks}
+use Rattle.fsrm_model.specs.objects.Reached.{reached, crossed, has_reached}
+use Rattle.fsrm_model.specs.objects.Runs.{run_quota, ran}
+use Rattle.fsrm_model.specs.commands.Step.{Acted, screened, concluded}
+use Rattle.fsrm_model.specs.nodes.Tree.{usage, is_under}
+use Rattle.fsrm_model.specs.commands.Work.{Judged}
+use Rattle.fsrm_model.specs.objects.Audits.{audited}
 use Rattle.fsrm_model.proofs.journal.KeptQuotas.{kept, counts_flagged, kept_row, kept_filter, kept_twice, disabled_flagged, none_flagged, some_flagged, state_found}
 use Rattle.fsrm_model.proofs.thresholds.ReachedLaws.{by_quota}
 use Rattle.fsrm_model.specs.declared.row.QuotaState.TheVariants.{Disabled}
-use Rattle.fsrm_model.specs.QuotaStates.{is_disabled, state_of}
+use Rattle.fsrm_model.specs.objects.QuotaStates.{is_disabled, state_of}
 
 pub lasting_twice : (R : Rows) → lasting (lasting R) ≡ lasting R
 lasting_twice R = ap (λ quotas. record R { quotas = quotas; queue = []; unvisited = [] }) (kept_twice R.quotas)

@@ -7,11 +7,11 @@ use Rattle.fsrm_base.specs.Keyed.{row_of, with_row, with_change, without_row}
 use Rattle.fsrm_model.specs.declared.row.QuotaRow.{QuotaRow}
 use Rattle.fsrm_model.specs.declared.row.QuotaState.{QuotaState}
 use Rattle.fsrm_model.specs.declared.row.QuotaState.TheVariants.{Complete, Disabled, Rebuilding, Incomplete}
-use Rattle.fsrm_model.specs.AutoApply.{quotas_with}
-use Rattle.fsrm_model.specs.Lasting.{flagged, flagged_quota}
-use Rattle.fsrm_model.specs.Quota.{folder_of, is_complete, counts}
-use Rattle.fsrm_model.specs.QuotaStates.{in_state, is_disabled, is_rebuilding}
-use Rattle.fsrm_model.specs.Texts.{quota_bytes}
+use Rattle.fsrm_model.specs.objects.AutoApply.{quotas_with}
+use Rattle.fsrm_model.specs.store.Lasting.{flagged, flagged_quota}
+use Rattle.fsrm_model.specs.objects.Quota.{folder_of, is_complete, counts}
+use Rattle.fsrm_model.specs.objects.QuotaStates.{in_state, is_disabled, is_rebuilding}
+use Rattle.fsrm_model.specs.values.Texts.{quota_bytes}
 use Rattle.fsrm_base.proofs.Look.{find-map}
 use Rattle.fsrm_model.proofs.thresholds.KeptLaws.{sum_by-same}
 

@@ -6,11 +6,11 @@ use Rattle.fsrm_model.specs.declared.command.Refusal.{Refusal}
 use Rattle.fsrm_model.specs.declared.command.Refusal.TheVariants.{ClockBack, ScreenBlocked}
 use Rattle.fsrm_model.specs.declared.row.Capacity.{Capacity}
 use Rattle.fsrm_model.specs.declared.row.Rows.{Rows}
-use Rattle.fsrm_model.specs.Check.{◌when◌, first}
-use Rattle.fsrm_model.specs.OldReplays.{old_decided, after_old_entry, old_replayed, IsOldEntry, AreOldEntries}
-use Rattle.fsrm_model.specs.Replays.{after_entry, replayed}
-use Rattle.fsrm_model.specs.Step.{Stepped, decided, work}
-use Rattle.fsrm_model.specs.Work.{Work}
+use Rattle.fsrm_model.specs.commands.Check.{◌when◌, first}
+use Rattle.fsrm_model.specs.store.OldReplays.{old_decided, after_old_entry, old_replayed, IsOldEntry, AreOldEntries}
+use Rattle.fsrm_model.specs.store.Replays.{after_entry, replayed}
+use Rattle.fsrm_model.specs.commands.Step.{Stepped, decided, work}
+use Rattle.fsrm_model.specs.commands.Work.{Work}
 
 -- what lasted then leaves the same now
 old_same : (K : Capacity) (R : Rows) (moment : ℕ) (w : Work) (o : Option Refusal) → (old_decided K R moment w o).lasting ≡ true → old_decided K R moment w o ≡ decided K R moment w o

@@ -9,12 +9,12 @@ use Rattle.fsrm_model.specs.declared.row.QuotaRow.{QuotaRow}
 use Rattle.fsrm_model.specs.declared.row.QuotaState.{QuotaState}
 use Rattle.fsrm_model.specs.declared.row.QuotaState.TheVariants.{Complete, Disabled, Rebuilding, Incomplete}
 use Rattle.fsrm_model.specs.declared.row.Rows.{Rows}
-use Rattle.fsrm_model.specs.Lasting.{flagged, lasting}
-use Rattle.fsrm_model.specs.Quota.{folder_of}
-use Rattle.fsrm_model.specs.QuotaStates.{head, is_rebuilding}
-use Rattle.fsrm_model.specs.Replays.{none_rebuilding}
-use Rattle.fsrm_model.specs.Valid.{IsValid}
-use Rattle.fsrm_model.specs.ValidScans.{IsQueue, AreLeft}
+use Rattle.fsrm_model.specs.store.Lasting.{flagged, lasting}
+use Rattle.fsrm_model.specs.objects.Quota.{folder_of}
+use Rattle.fsrm_model.specs.objects.QuotaStates.{head, is_rebuilding}
+use Rattle.fsrm_model.specs.store.Replays.{none_rebuilding}
+use Rattle.fsrm_model.specs.store.Valid.{IsValid}
+use Rattle.fsrm_model.specs.store.ValidScans.{IsQueue, AreLeft}
 use Rattle.fsrm_model.proofs.journal.KeptQuotas.{kept, rebuilding_flagged}
 
 state_whole : (state : QuotaState) → not (is_rebuilding state) ≡ true → flagged state ≡ state

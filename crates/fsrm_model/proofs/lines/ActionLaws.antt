@@ -13,11 +13,11 @@ use Rattle.fsrm_model.specs.declared.command.Refusal.TheVariants.{BadLine, Inval
 use Rattle.fsrm_model.specs.declared.row.Action.{Action}
 use Rattle.fsrm_model.specs.declared.row.ActionKind.{ActionKind}
 use Rattle.fsrm_model.specs.declared.row.ActionKind.TheVariants.{Event, Mail, Program, Report}
-use Rattle.fsrm_model.specs.ActionWords.{kind_word, kind_named, percent_from, minutes_from, is_comma, with_commas, action_from, notice_from}
-use Rattle.fsrm_model.specs.Limits.{greatest_percent, most_minutes}
-use Rattle.fsrm_model.specs.Reading.{Read, ◌>>=◌, guarded, known, is_number, number_from}
-use Rattle.fsrm_model.specs.Spelling.{IsNamed, Writes, WritesMinutes, WritesAction, WritesNotice}
-use Rattle.fsrm_model.specs.Thresholds.{is_action_text}
+use Rattle.fsrm_model.specs.texts.ActionWords.{kind_word, kind_named, percent_from, minutes_from, is_comma, with_commas, action_from, notice_from}
+use Rattle.fsrm_model.specs.values.Limits.{greatest_percent, most_minutes}
+use Rattle.fsrm_model.specs.lines.Reading.{Read, ◌>>=◌, guarded, known, is_number, number_from}
+use Rattle.fsrm_model.specs.meaning.Spelling.{IsNamed, Writes, WritesMinutes, WritesAction, WritesNotice}
+use Rattle.fsrm_model.specs.objects.Thresholds.{is_action_text}
 use Rattle.fsrm_base.proofs.Look.{found_passes}
 use Rattle.fsrm_model.proofs.lines.LineValues.{AsLine, then_line, guarded_line, known_line, if_line, number_line}
 use Rattle.fsrm_model.proofs.lines.ReadLaws.{then_ok, both_ok, guarded_then, guarded_from, number_writes, number_reads}

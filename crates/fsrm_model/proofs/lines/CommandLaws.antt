@@ -9,13 +9,13 @@ use Rattle.fsrm_model.specs.declared.command.Deed.{Deed}
 use Rattle.fsrm_model.specs.declared.command.Deed.TheVariants.{File, Usage, Step}
 use Rattle.fsrm_model.specs.declared.command.FileOp.TheVariants.{Mkdir, Create, Resize, Touch, Move, Remove}
 use Rattle.fsrm_model.specs.declared.command.Refusal.TheVariants.{BadLine}
-use Rattle.fsrm_model.specs.Limits.{latest_moment, longest_file, last_owner, most_visits}
-use Rattle.fsrm_model.specs.Line.{no_more, number_word, path_word, owner_word, length_word, mkdir_words, create_words, resize_words, touch_words, move_words, remove_words, usage_words, step_words, Reader, named_word, option_words, tool_words, placed, tool_reader, readers, deed_words, command_of}
-use Rattle.fsrm_model.specs.Options.{options}
-use Rattle.fsrm_model.specs.Reading.{Read, ◌>>=◌, known, number_from, path_from}
-use Rattle.fsrm_model.specs.Spelling.{IsNamed, Writes, WritesPath, SpellsOptions, SpellsTool, SpellsPlaced, SpellsDeed}
-use Rattle.fsrm_model.specs.Tools.{Names, named, ToolCommand, tools}
-use Rattle.fsrm_model.specs.Words.{Word}
+use Rattle.fsrm_model.specs.values.Limits.{latest_moment, longest_file, last_owner, most_visits}
+use Rattle.fsrm_model.specs.lines.Line.{no_more, number_word, path_word, owner_word, length_word, mkdir_words, create_words, resize_words, touch_words, move_words, remove_words, usage_words, step_words, Reader, named_word, option_words, tool_words, placed, tool_reader, readers, deed_words, command_of}
+use Rattle.fsrm_model.specs.lines.Options.{options}
+use Rattle.fsrm_model.specs.lines.Reading.{Read, ◌>>=◌, known, number_from, path_from}
+use Rattle.fsrm_model.specs.meaning.Spelling.{IsNamed, Writes, WritesPath, SpellsOptions, SpellsTool, SpellsPlaced, SpellsDeed}
+use Rattle.fsrm_model.specs.lines.Tools.{Names, named, ToolCommand, tools}
+use Rattle.fsrm_model.specs.lines.Words.{Word}
 use Rattle.fsrm_model.proofs.lines.LineValues.{AsLine, then_line, known_line, end_line, number_word_line, path_word_line, one_path_line, path_number_line, one_number_line}
 use Rattle.fsrm_model.proofs.lines.OptionLaws.{options_spell, spelled_options, options_line}
 use Rattle.fsrm_model.proofs.lines.PathLaws.{path_writes, path_reads}

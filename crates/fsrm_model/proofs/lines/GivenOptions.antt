@@ -7,11 +7,11 @@ use Rattle.std.proofs.lemmas.List.{length-append}
 use Rattle.std.proofs.lemmas.List.Sums.{sum_by-cons}
 use Rattle.fsrm_model.specs.declared.command.Added.{Added}
 use Rattle.fsrm_model.specs.declared.row.Action.{Action}
-use Rattle.fsrm_model.specs.Entry.{number_bytes, text_bytes, path_bytes, notice_bytes, screen_notice_bytes}
-use Rattle.fsrm_model.specs.Limits.{longest_path}
-use Rattle.fsrm_model.specs.ValueForms.{Value, PathValue, NumberValue, TextValue, TextsValue, NoticeValue, ActionValue, path_of, number_of, text_of, texts_of, notice_of, action_of}
-use Rattle.fsrm_model.specs.Options.{Key, path_key, Given, is_same, is_of, are_apart, its, one, each_of}
-use Rattle.fsrm_model.specs.Spelling.{SpellsEach, AreAllowed, SpellsOptions}
+use Rattle.fsrm_model.specs.commands.Entry.{number_bytes, text_bytes, path_bytes, notice_bytes, screen_notice_bytes}
+use Rattle.fsrm_model.specs.values.Limits.{longest_path}
+use Rattle.fsrm_model.specs.lines.ValueForms.{Value, PathValue, NumberValue, TextValue, TextsValue, NoticeValue, ActionValue, path_of, number_of, text_of, texts_of, notice_of, action_of}
+use Rattle.fsrm_model.specs.lines.Options.{Key, path_key, Given, is_same, is_of, are_apart, its, one, each_of}
+use Rattle.fsrm_model.specs.meaning.Spelling.{SpellsEach, AreAllowed, SpellsOptions}
 use Rattle.fsrm_base.proofs.TestLaws.{both, both_true, is_false}
 use Rattle.fsrm_model.proofs.lines.OptionLaws.{same_is}
 use Rattle.fsrm_model.proofs.lines.SoundValues.{Path, IsSoundValue, IsSoundGiven, lengths, name_pays, weight, weigh, value_sound, name_length, value_fits}

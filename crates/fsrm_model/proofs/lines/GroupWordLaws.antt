@@ -5,11 +5,11 @@ use Rattle.std.specs.List.{list_all, list_any, onto_first, slice_split}
 use Rattle.std.proofs.lemmas.Bool.{and_parts, or_from, eqb-true, le-leb, leb-true, true≢false, cases_Bool}
 use Rattle.std.proofs.lemmas.List.Splits.{join_with_byte-slice_split}
 use Rattle.fsrm_model.specs.declared.command.Refusal.TheVariants.{InvalidName, OutOfRange}
-use Rattle.fsrm_model.specs.GroupWords.{object_from, is_bar, patterns_from, non_members_from}
-use Rattle.fsrm_model.specs.Limits.{longest_name, most_patterns}
-use Rattle.fsrm_model.specs.Patterns.{is_object_name, is_pattern_byte, is_pattern}
-use Rattle.fsrm_model.specs.Reading.{Read, ◌>>=◌, guarded}
-use Rattle.fsrm_model.specs.Spelling.{WritesObject, WritesPatterns}
+use Rattle.fsrm_model.specs.lines.GroupWords.{object_from, is_bar, patterns_from, non_members_from}
+use Rattle.fsrm_model.specs.values.Limits.{longest_name, most_patterns}
+use Rattle.fsrm_model.specs.values.Patterns.{is_object_name, is_pattern_byte, is_pattern}
+use Rattle.fsrm_model.specs.lines.Reading.{Read, ◌>>=◌, guarded}
+use Rattle.fsrm_model.specs.meaning.Spelling.{WritesObject, WritesPatterns}
 use Rattle.fsrm_model.proofs.lines.LineValues.{AsLine, then_line, guarded_line}
 use Rattle.fsrm_model.proofs.lines.PathLaws.{has_mark, split_join}
 use Rattle.fsrm_model.proofs.lines.ReadLaws.{then_ok, guarded_then, guarded_ok, guarded_from}

@@ -6,10 +6,10 @@ use Rattle.std.specs.Str.Lossy.{utf8_valid_len}
 use Rattle.fsrm_model.specs.declared.command.Command.{Command}
 use Rattle.fsrm_model.specs.declared.command.Refusal.{Refusal}
 use Rattle.fsrm_model.specs.declared.command.Refusal.TheVariants.{BadLine, LineTooLong}
-use Rattle.fsrm_model.specs.Limits.{longest_line}
-use Rattle.fsrm_model.specs.Line.{command_of, is_skipped, read_words, is_line_refusal, read_line}
-use Rattle.fsrm_model.specs.Reading.{Read}
-use Rattle.fsrm_model.specs.Words.{words_at, parts_from, is_closed, last_quote, words}
+use Rattle.fsrm_model.specs.values.Limits.{longest_line}
+use Rattle.fsrm_model.specs.lines.Line.{command_of, is_skipped, read_words, is_line_refusal, read_line}
+use Rattle.fsrm_model.specs.lines.Reading.{Read}
+use Rattle.fsrm_model.specs.lines.Words.{words_at, parts_from, is_closed, last_quote, words}
 use Rattle.fsrm_model.proofs.lines.CommandLaws.{command_line}
 use Rattle.fsrm_model.proofs.lines.LineValues.{AsLine, then_line, if_line}
 

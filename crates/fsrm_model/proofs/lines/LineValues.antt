@@ -7,11 +7,11 @@ use Rattle.std.specs.Str.Parse.{digits_value}
 use Rattle.fsrm_model.specs.declared.command.Deed.{Deed}
 use Rattle.fsrm_model.specs.declared.command.Refusal.{Refusal}
 use Rattle.fsrm_model.specs.declared.command.Refusal.TheVariants.{BadLine, InvalidPath, InvalidName, OutOfRange, InvalidLimit}
-use Rattle.fsrm_model.specs.Line.{next_word, no_more, number_word, path_word, is_line_refusal}
-use Rattle.fsrm_model.specs.Name.{is_name}
-use Rattle.fsrm_model.specs.Quota.{is_limit}
-use Rattle.fsrm_model.specs.Reading.{Read, ◌>>=◌, guarded, known, is_number, number_from, path_parts, has_path_form, path_from, unit_bytes, digits_of, limit_from, choice_from}
-use Rattle.fsrm_model.specs.Words.{Word}
+use Rattle.fsrm_model.specs.lines.Line.{next_word, no_more, number_word, path_word, is_line_refusal}
+use Rattle.fsrm_model.specs.values.Name.{is_name}
+use Rattle.fsrm_model.specs.objects.Quota.{is_limit}
+use Rattle.fsrm_model.specs.lines.Reading.{Read, ◌>>=◌, guarded, known, is_number, number_from, path_parts, has_path_form, path_from, unit_bytes, digits_of, limit_from, choice_from}
+use Rattle.fsrm_model.specs.lines.Words.{Word}
 
 -- it is read, or refused as a line is
 abbrev pub AsLine : {A : Type 0} → Read A → Type 0

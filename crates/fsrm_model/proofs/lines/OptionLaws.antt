@@ -7,11 +7,11 @@ use Rattle.std.proofs.lemmas.List.{append-nil}
 use Rattle.std.proofs.lemmas.List.Sums.{sum_by-append, sum_by-cons}
 use Rattle.std.proofs.lemmas.Slice.Eq.{bytes_eq-Decides}
 use Rattle.fsrm_model.specs.declared.command.Refusal.TheVariants.{BadLine, OutOfRange}
-use Rattle.fsrm_model.specs.ValueForms.{ValueForm, Value, value_from, same_form}
-use Rattle.fsrm_model.specs.Options.{Times, Once, Repeated, AtMost, Key, Given, same_times, is_same, is_of, is_colon, key_named, word_key, may_repeat, is_full, times_in, with_option, options}
-use Rattle.fsrm_model.specs.Reading.{Read, ◌>>=◌, guarded, known}
-use Rattle.fsrm_model.specs.Spelling.{WritesValue, SpellsEach, IsAllowed, AreAllowed, SpellsOptions}
-use Rattle.fsrm_model.specs.Words.{Word}
+use Rattle.fsrm_model.specs.lines.ValueForms.{ValueForm, Value, value_from, same_form}
+use Rattle.fsrm_model.specs.lines.Options.{Times, Once, Repeated, AtMost, Key, Given, same_times, is_same, is_of, is_colon, key_named, word_key, may_repeat, is_full, times_in, with_option, options}
+use Rattle.fsrm_model.specs.lines.Reading.{Read, ◌>>=◌, guarded, known}
+use Rattle.fsrm_model.specs.meaning.Spelling.{WritesValue, SpellsEach, IsAllowed, AreAllowed, SpellsOptions}
+use Rattle.fsrm_model.specs.lines.Words.{Word}
 use Rattle.fsrm_base.proofs.TestLaws.{both, both_true, eq_is, eq_same, eq_test, gt_is, is_false, not_le}
 use Rattle.fsrm_model.proofs.lines.ValueFormLaws.{is_form, value_reads, form_same, form_is_itself}
 use Rattle.fsrm_model.proofs.lines.LineValues.{AsLine, then_line, guarded_line, known_line}

@@ -7,10 +7,10 @@ use Rattle.std.proofs.lemmas.List.{append-nil, take-append-drop}
 use Rattle.std.proofs.lemmas.List.Splits.{join_with_byte-slice_split}
 use Rattle.std.proofs.lemmas.Slice.Eq.{bytes_eq-Decides}
 use Rattle.fsrm_model.specs.declared.command.Refusal.TheVariants.{InvalidPath, InvalidName}
-use Rattle.fsrm_model.specs.Limits.{longest_name}
-use Rattle.fsrm_model.specs.Name.{is_name, is_name_byte}
-use Rattle.fsrm_model.specs.Reading.{Read, guarded, is_backslash, without_last_empty, path_parts, is_on_volume, has_path_form, path_from}
-use Rattle.fsrm_model.specs.Spelling.{WritesPath}
+use Rattle.fsrm_model.specs.values.Limits.{longest_name}
+use Rattle.fsrm_model.specs.values.Name.{is_name, is_name_byte}
+use Rattle.fsrm_model.specs.lines.Reading.{Read, guarded, is_backslash, without_last_empty, path_parts, is_on_volume, has_path_form, path_from}
+use Rattle.fsrm_model.specs.meaning.Spelling.{WritesPath}
 use Rattle.fsrm_base.proofs.TestLaws.{eq_same}
 use Rattle.fsrm_model.proofs.lines.ReadLaws.{then_ok, guarded_then, guarded_ok, guarded_from}
 use Rattle.fsrm_model.proofs.lines.ValueLaws.{is_mark}

@@ -4,9 +4,9 @@ use Rattle.std.specs.Prelude.{Option}
 use Rattle.fsrm_model.specs.declared.command.Command.{Command}
 use Rattle.fsrm_model.specs.declared.row.Capacity.{Capacity}
 use Rattle.fsrm_model.specs.declared.row.Rows.{Rows}
-use Rattle.fsrm_model.specs.Line.{read_line}
-use Rattle.fsrm_model.specs.Reading.{Read}
-use Rattle.fsrm_model.specs.Script.{without_cr, replied, replied_to, line_cost, read_cost}
+use Rattle.fsrm_model.specs.lines.Line.{read_line}
+use Rattle.fsrm_model.specs.lines.Reading.{Read}
+use Rattle.fsrm_model.specs.lines.Script.{without_cr, replied, replied_to, line_cost, read_cost}
 
 -- what a line does goes by what it reads as
 pub replied-read : (K : Capacity) (R : Rows) (n : ℕ) (line : List ℕ) (r : Option (Read Command)) → read_line (without_cr line) ≡ r → replied K R n line ≡ replied_to K R n r

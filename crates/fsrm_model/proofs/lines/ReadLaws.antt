@@ -5,8 +5,8 @@ use Rattle.std.specs.Str.Parse.{digits_value}
 use Rattle.std.proofs.lemmas.Bool.{and_parts, le-leb, leb-true}
 use Rattle.fsrm_model.specs.declared.command.Refusal.{Refusal}
 use Rattle.fsrm_model.specs.declared.command.Refusal.TheVariants.{BadLine, OutOfRange}
-use Rattle.fsrm_model.specs.Reading.{Read, ◌>>=◌, guarded, is_number, number_from}
-use Rattle.fsrm_model.specs.Spelling.{Writes}
+use Rattle.fsrm_model.specs.lines.Reading.{Read, ◌>>=◌, guarded, is_number, number_from}
+use Rattle.fsrm_model.specs.meaning.Spelling.{Writes}
 
 -- a value is taken to what is read next
 pub then_ok : {A B : Type 0} (r : Read A) (a : A) (f : A → Read B) → r ≡ Ok a → (r >>= f) ≡ f a

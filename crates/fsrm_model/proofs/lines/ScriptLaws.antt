@@ -7,8 +7,8 @@ use Rattle.std.proofs.lemmas.List.{take_all, length-take}
 use Rattle.fsrm_model.specs.declared.row.Capacity.{Capacity}
 use Rattle.fsrm_model.specs.declared.row.Rows.{Rows}
 use Rattle.fsrm_model.specs.declared.command.Refusal.TheVariants.{LineTooLong}
-use Rattle.fsrm_model.specs.Line.{read_line}
-use Rattle.fsrm_model.specs.Script.{is_end, lines, onto_first, spelled_lines, AreLines, without_cr, replied, replied_to, text_from, fold_from, line_cost, read_cost, cost_from}
+use Rattle.fsrm_model.specs.lines.Line.{read_line}
+use Rattle.fsrm_model.specs.lines.Script.{is_end, lines, onto_first, spelled_lines, AreLines, without_cr, replied, replied_to, text_from, fold_from, line_cost, read_cost, cost_from}
 use Rattle.fsrm_base.proofs.TestLaws.{neither}
 
 -- a line that has ended

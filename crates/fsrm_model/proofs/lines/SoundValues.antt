@@ -10,16 +10,16 @@ use Rattle.std.proofs.lemmas.List.Sums.{sum_by-cons}
 use Rattle.std.proofs.Math.Nat.{min-le_right}
 use Rattle.fsrm_model.specs.declared.command.Added.{Added}
 use Rattle.fsrm_model.specs.declared.row.Action.{Action}
-use Rattle.fsrm_model.specs.Entry.{path_length, path_bytes}
-use Rattle.fsrm_model.specs.Limits.{longest_path, greatest_percent, most_minutes, most_patterns}
-use Rattle.fsrm_model.specs.Name.{is_name}
-use Rattle.fsrm_model.specs.ValueForms.{ValueForm, PathForm, LimitForm, NumberForm, ChoiceForm, UpdateForm, ObjectForm, NameForm, MembersForm, NonMembersForm, NoticeForm, ActionForm, Value, PathValue, NumberValue, ChoiceValue, UpdateValue, TextValue, TextsValue, NoticeValue, ActionValue}
-use Rattle.fsrm_model.specs.Options.{Key, Given, key_named}
-use Rattle.fsrm_model.specs.Patterns.{is_object_name, is_pattern, are_members, are_non_members}
-use Rattle.fsrm_model.specs.Quota.{is_limit}
-use Rattle.fsrm_model.specs.Spelling.{Writes, WritesPath, WritesMinutes, WritesAction, WritesNotice, WritesPatterns, WritesValue}
-use Rattle.fsrm_model.specs.Thresholds.{is_percent, are_minutes, is_action_text, is_action, is_new_action, is_notice}
-use Rattle.fsrm_model.specs.Valued.{is_path, is_short_path}
+use Rattle.fsrm_model.specs.commands.Entry.{path_length, path_bytes}
+use Rattle.fsrm_model.specs.values.Limits.{longest_path, greatest_percent, most_minutes, most_patterns}
+use Rattle.fsrm_model.specs.values.Name.{is_name}
+use Rattle.fsrm_model.specs.lines.ValueForms.{ValueForm, PathForm, LimitForm, NumberForm, ChoiceForm, UpdateForm, ObjectForm, NameForm, MembersForm, NonMembersForm, NoticeForm, ActionForm, Value, PathValue, NumberValue, ChoiceValue, UpdateValue, TextValue, TextsValue, NoticeValue, ActionValue}
+use Rattle.fsrm_model.specs.lines.Options.{Key, Given, key_named}
+use Rattle.fsrm_model.specs.values.Patterns.{is_object_name, is_pattern, are_members, are_non_members}
+use Rattle.fsrm_model.specs.objects.Quota.{is_limit}
+use Rattle.fsrm_model.specs.meaning.Spelling.{Writes, WritesPath, WritesMinutes, WritesAction, WritesNotice, WritesPatterns, WritesValue}
+use Rattle.fsrm_model.specs.objects.Thresholds.{is_percent, are_minutes, is_action_text, is_action, is_new_action, is_notice}
+use Rattle.fsrm_model.specs.store.Valued.{is_path, is_short_path}
 use Rattle.fsrm_base.proofs.Look.{found_passes}
 use Rattle.fsrm_base.proofs.TestLaws.{both_true}
 use Rattle.fsrm_model.proofs.lines.ValueLaws.{named_lower}

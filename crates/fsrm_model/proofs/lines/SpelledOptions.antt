@@ -4,14 +4,14 @@ use Rattle.std.specs.Prelude.{◌&&◌, sum_by, Option, Some, None, option_and_t
 use Rattle.std.specs.List.{AllByRecursion, list_all}
 use Rattle.std.specs.Option.{option_map_or}
 use Rattle.fsrm_model.specs.declared.command.Deed.{Deed}
-use Rattle.fsrm_model.specs.Commands.{paths, has_values, more_bytes}
-use Rattle.fsrm_model.specs.Entry.{number_bytes, text_bytes, path_bytes, optional, notice_bytes}
-use Rattle.fsrm_model.specs.ValueForms.{Value, path_of, number_of, text_of, notice_of}
-use Rattle.fsrm_model.specs.Options.{Key, path_key, limit_key, remove_threshold_key, add_threshold_key, add_notification_key, source_template_key, exclude_key, Given, one, each_of}
-use Rattle.fsrm_model.specs.Patterns.{is_object_name}
-use Rattle.fsrm_model.specs.Quota.{is_limit}
-use Rattle.fsrm_model.specs.Tools.{Names, ToolCommand, needs, of_path, alone as without_options}
-use Rattle.fsrm_model.specs.Thresholds.{is_percent, is_notice}
+use Rattle.fsrm_model.specs.commands.Commands.{paths, has_values, more_bytes}
+use Rattle.fsrm_model.specs.commands.Entry.{number_bytes, text_bytes, path_bytes, optional, notice_bytes}
+use Rattle.fsrm_model.specs.lines.ValueForms.{Value, path_of, number_of, text_of, notice_of}
+use Rattle.fsrm_model.specs.lines.Options.{Key, path_key, limit_key, remove_threshold_key, add_threshold_key, add_notification_key, source_template_key, exclude_key, Given, one, each_of}
+use Rattle.fsrm_model.specs.values.Patterns.{is_object_name}
+use Rattle.fsrm_model.specs.objects.Quota.{is_limit}
+use Rattle.fsrm_model.specs.lines.Tools.{Names, ToolCommand, needs, of_path, alone as without_options}
+use Rattle.fsrm_model.specs.objects.Thresholds.{is_percent, is_notice}
 use Rattle.fsrm_base.proofs.TestLaws.{both_true}
 use Rattle.fsrm_model.proofs.lines.SoundValues.{Path, is_sound_path, IsSoundPath, IsSoundGiven, weigh}
 use Rattle.fsrm_model.proofs.lines.GivenOptions.{AreSound, paths_kind, numbers_kind, text_kind, notices_kind, one_sound, each_of_sound, maybe_sound, shares_fit, one_fits, each_fits, path_weighs, text_weighs, number_weighs, notice_weighs}

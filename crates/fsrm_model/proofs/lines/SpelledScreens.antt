@@ -10,14 +10,14 @@ use Rattle.fsrm_model.specs.declared.command.Deed.TheVariants.{Filegroup, Screen
 use Rattle.fsrm_model.specs.declared.command.ExceptionDeed.TheVariants.{Add as ExceptionAdd, Delete as ExceptionDelete, List as ExceptionList}
 use Rattle.fsrm_model.specs.declared.command.FilegroupDeed.TheVariants.{Add as FilegroupAdd, Modify as FilegroupModify, Delete as FilegroupDelete, List as FilegroupList}
 use Rattle.fsrm_model.specs.declared.command.ScreenDeed.TheVariants.{Add as ScreenAdd, Modify as ScreenModify, Delete as ScreenDelete, List as ScreenList}
-use Rattle.fsrm_model.specs.Commands.{are_some_names}
-use Rattle.fsrm_model.specs.Entry.{choice_bytes, text_bytes, path_bytes, optional, counted, screen_notice_bytes}
-use Rattle.fsrm_model.specs.Limits.{most_patterns}
-use Rattle.fsrm_model.specs.ValueForms.{Value, path_of, choice_of, text_of, texts_of, action_of}
-use Rattle.fsrm_model.specs.Options.{Key, path_key, filegroup_key, members_key, non_members_key, screen_type_key, remove_filegroup_key, add_filegroup_key, screen_notification_key, Given, its, one, each_of}
-use Rattle.fsrm_model.specs.Patterns.{is_object_name, is_pattern, are_members, are_non_members}
-use Rattle.fsrm_model.specs.Tools.{needs, group_add, group_modify, group_delete, group_commands, screen_add, screen_modify, screen_commands, except_add, except_commands, filescrn}
-use Rattle.fsrm_model.specs.Thresholds.{is_new_action}
+use Rattle.fsrm_model.specs.commands.Commands.{are_some_names}
+use Rattle.fsrm_model.specs.commands.Entry.{choice_bytes, text_bytes, path_bytes, optional, counted, screen_notice_bytes}
+use Rattle.fsrm_model.specs.values.Limits.{most_patterns}
+use Rattle.fsrm_model.specs.lines.ValueForms.{Value, path_of, choice_of, text_of, texts_of, action_of}
+use Rattle.fsrm_model.specs.lines.Options.{Key, path_key, filegroup_key, members_key, non_members_key, screen_type_key, remove_filegroup_key, add_filegroup_key, screen_notification_key, Given, its, one, each_of}
+use Rattle.fsrm_model.specs.values.Patterns.{is_object_name, is_pattern, are_members, are_non_members}
+use Rattle.fsrm_model.specs.lines.Tools.{needs, group_add, group_modify, group_delete, group_commands, screen_add, screen_modify, screen_commands, except_add, except_commands, filescrn}
+use Rattle.fsrm_model.specs.objects.Thresholds.{is_new_action}
 use Rattle.fsrm_base.proofs.TestLaws.{both_true}
 use Rattle.fsrm_model.proofs.lines.SoundValues.{Path, is_sound_path, IsSoundGiven, lengths}
 use Rattle.fsrm_model.proofs.lines.GivenOptions.{AreSound, paths_kind, text_kind, texts_kind, actions_kind, one_sound, each_of_sound, maybe_sound, shares_fit, one_fits, each_fits, path_weighs, text_weighs, texts_weigh, action_weighs}

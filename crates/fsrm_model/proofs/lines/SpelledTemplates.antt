@@ -10,15 +10,15 @@ use Rattle.fsrm_model.specs.declared.command.Deed.{Deed}
 use Rattle.fsrm_model.specs.declared.command.Deed.TheVariants.{Template, Autoquota}
 use Rattle.fsrm_model.specs.declared.command.TemplateDeed.TheVariants.{Add as TemplateAdd, Modify as TemplateModify, Delete as TemplateDelete, List as TemplateList}
 use Rattle.fsrm_model.specs.declared.command.Update.TheVariants.{Keep}
-use Rattle.fsrm_model.specs.Entry.{number_bytes, text_bytes, notice_bytes, choice_bytes}
-use Rattle.fsrm_model.specs.Limits.{most_excluded}
-use Rattle.fsrm_model.specs.Name.{is_name}
-use Rattle.fsrm_model.specs.ValueForms.{Value, path_of, number_of, choice_of, update_of, text_of, notice_of}
-use Rattle.fsrm_model.specs.Options.{Key, path_key, limit_key, quota_type_key, remove_threshold_key, add_threshold_key, add_notification_key, template_key, source_template_key, update_derived_key, exclude_key, Given, is_of, one, each_of, times_in}
-use Rattle.fsrm_model.specs.Patterns.{is_object_name}
-use Rattle.fsrm_model.specs.Quota.{is_limit}
-use Rattle.fsrm_model.specs.Tools.{needs, new_thresholds, template_add, template_modify, template_delete, template_commands, auto_add, auto_commands}
-use Rattle.fsrm_model.specs.Thresholds.{is_percent, is_notice}
+use Rattle.fsrm_model.specs.commands.Entry.{number_bytes, text_bytes, notice_bytes, choice_bytes}
+use Rattle.fsrm_model.specs.values.Limits.{most_excluded}
+use Rattle.fsrm_model.specs.values.Name.{is_name}
+use Rattle.fsrm_model.specs.lines.ValueForms.{Value, path_of, number_of, choice_of, update_of, text_of, notice_of}
+use Rattle.fsrm_model.specs.lines.Options.{Key, path_key, limit_key, quota_type_key, remove_threshold_key, add_threshold_key, add_notification_key, template_key, source_template_key, update_derived_key, exclude_key, Given, is_of, one, each_of, times_in}
+use Rattle.fsrm_model.specs.values.Patterns.{is_object_name}
+use Rattle.fsrm_model.specs.objects.Quota.{is_limit}
+use Rattle.fsrm_model.specs.lines.Tools.{needs, new_thresholds, template_add, template_modify, template_delete, template_commands, auto_add, auto_commands}
+use Rattle.fsrm_model.specs.objects.Thresholds.{is_percent, is_notice}
 use Rattle.fsrm_base.proofs.TestLaws.{both_true}
 use Rattle.fsrm_model.proofs.lines.SoundValues.{Path, is_sound_path, IsSoundGiven}
 use Rattle.fsrm_model.proofs.lines.GivenOptions.{AreSound, text_kind, one_sound, each_of_sound, shares_fit, one_fits, each_fits, text_weighs, number_weighs, notice_weighs}

@@ -14,18 +14,18 @@ use Rattle.fsrm_model.specs.declared.command.Deed.{Deed}
 use Rattle.fsrm_model.specs.declared.command.Deed.TheVariants.{File, Usage, Step, Quota, Admin}
 use Rattle.fsrm_model.specs.declared.command.FileOp.TheVariants.{Mkdir, Create, Resize, Touch, Move, Remove}
 use Rattle.fsrm_model.specs.declared.command.QuotaDeed.TheVariants.{Add as QuotaAdd, Modify as QuotaModify, Delete as QuotaDelete, Scan as QuotaScan, Resetpeak as QuotaResetpeak, List as QuotaList}
-use Rattle.fsrm_model.specs.Commands.{paths, has_values, is_owner, is_length, kind, more_bytes}
-use Rattle.fsrm_model.specs.Entry.{number_bytes, choice_bytes, text_bytes, path_bytes, optional}
-use Rattle.fsrm_model.specs.Limits.{latest_moment, longest_file, longest_path, longest_entry, last_owner, most_visits, most_minutes}
-use Rattle.fsrm_model.specs.ValueForms.{path_of, number_of, choice_of, text_of, notice_of}
-use Rattle.fsrm_model.specs.Options.{path_key, limit_key, quota_type_key, status_key, remove_threshold_key, add_threshold_key, add_notification_key, source_template_key, run_limit_key, Given, one, each_of}
-use Rattle.fsrm_model.specs.Patterns.{is_object_name}
-use Rattle.fsrm_model.specs.Quota.{is_limit}
-use Rattle.fsrm_model.specs.Spelling.{Piece, Plain, Quoted, spelled_pieces, text_of_pieces, Writes, SpellsWords, SpellsTool, SpellsPlaced, SpellsDeed, Spells}
-use Rattle.fsrm_model.specs.Tools.{Names, ToolCommand, quota_add, quota_modify, quota_list, quota_commands, has_limit, new_thresholds, admin_options, admin_commands, dirquota, tools}
-use Rattle.fsrm_model.specs.Thresholds.{is_percent, is_notice}
-use Rattle.fsrm_model.specs.Valued.{is_path, is_deed, is_short_path, is_short, is_command}
-use Rattle.fsrm_model.specs.Valid.{is_moment}
+use Rattle.fsrm_model.specs.commands.Commands.{paths, has_values, is_owner, is_length, kind, more_bytes}
+use Rattle.fsrm_model.specs.commands.Entry.{number_bytes, choice_bytes, text_bytes, path_bytes, optional}
+use Rattle.fsrm_model.specs.values.Limits.{latest_moment, longest_file, longest_path, longest_entry, last_owner, most_visits, most_minutes}
+use Rattle.fsrm_model.specs.lines.ValueForms.{path_of, number_of, choice_of, text_of, notice_of}
+use Rattle.fsrm_model.specs.lines.Options.{path_key, limit_key, quota_type_key, status_key, remove_threshold_key, add_threshold_key, add_notification_key, source_template_key, run_limit_key, Given, one, each_of}
+use Rattle.fsrm_model.specs.values.Patterns.{is_object_name}
+use Rattle.fsrm_model.specs.objects.Quota.{is_limit}
+use Rattle.fsrm_model.specs.meaning.Spelling.{Piece, Plain, Quoted, spelled_pieces, text_of_pieces, Writes, SpellsWords, SpellsTool, SpellsPlaced, SpellsDeed, Spells}
+use Rattle.fsrm_model.specs.lines.Tools.{Names, ToolCommand, quota_add, quota_modify, quota_list, quota_commands, has_limit, new_thresholds, admin_options, admin_commands, dirquota, tools}
+use Rattle.fsrm_model.specs.objects.Thresholds.{is_percent, is_notice}
+use Rattle.fsrm_model.specs.store.Valued.{is_path, is_deed, is_short_path, is_short, is_command}
+use Rattle.fsrm_model.specs.store.Valid.{is_moment}
 use Rattle.fsrm_model.proofs.lines.CommandLaws.{named_each}
 use Rattle.fsrm_base.proofs.TestLaws.{both, both_true, lt_is}
 use Rattle.fsrm_model.proofs.lines.SoundValues.{Path, is_sound_path, path_sound, within, IsSoundGiven}

@@ -9,11 +9,11 @@ use Rattle.std.proofs.lemmas.Bool.{and_parts, and_from, or_cases, eqb-true, true
 use Rattle.fsrm_model.specs.declared.command.Command.{Command}
 use Rattle.fsrm_model.specs.declared.command.Refusal.{Refusal}
 use Rattle.fsrm_model.specs.declared.command.Refusal.TheVariants.{BadLine, LineTooLong}
-use Rattle.fsrm_model.specs.Limits.{longest_line}
-use Rattle.fsrm_model.specs.Line.{command_of, is_skipped, read_words, read_line}
-use Rattle.fsrm_model.specs.Reading.{Read, is_number}
-use Rattle.fsrm_model.specs.Spelling.{Piece, Plain, Quoted, ArePieces, spelled_pieces, text_of_pieces, SpellsWords, IsLine, Spells, Skips}
-use Rattle.fsrm_model.specs.Words.{is_blank, words}
+use Rattle.fsrm_model.specs.values.Limits.{longest_line}
+use Rattle.fsrm_model.specs.lines.Line.{command_of, is_skipped, read_words, read_line}
+use Rattle.fsrm_model.specs.lines.Reading.{Read, is_number}
+use Rattle.fsrm_model.specs.meaning.Spelling.{Piece, Plain, Quoted, ArePieces, spelled_pieces, text_of_pieces, SpellsWords, IsLine, Spells, Skips}
+use Rattle.fsrm_model.specs.lines.Words.{is_blank, words}
 use Rattle.fsrm_model.proofs.lines.ReadLaws.{then_ok, both_ok}
 use Rattle.fsrm_model.proofs.lines.WordLaws.{texts, words_read, words_spelled}
 use Rattle.fsrm_model.proofs.lines.CommandLaws.{SpellsCommand, command_spells, command_reads}

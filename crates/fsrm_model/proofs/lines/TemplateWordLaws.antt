@@ -5,10 +5,10 @@ use Rattle.std.specs.Str.{str_eq_ignore_ascii_case}
 use Rattle.fsrm_model.specs.declared.command.Refusal.TheVariants.{BadLine, InvalidName}
 use Rattle.fsrm_model.specs.declared.command.Update.{Update}
 use Rattle.fsrm_model.specs.declared.command.Update.TheVariants.{Keep, Matching, All}
-use Rattle.fsrm_model.specs.Name.{is_name}
-use Rattle.fsrm_model.specs.Reading.{known}
-use Rattle.fsrm_model.specs.Spelling.{IsNamed, WritesName}
-use Rattle.fsrm_model.specs.TemplateWords.{update_word, update_named, update_from, name_from}
+use Rattle.fsrm_model.specs.values.Name.{is_name}
+use Rattle.fsrm_model.specs.lines.Reading.{known}
+use Rattle.fsrm_model.specs.meaning.Spelling.{IsNamed, WritesName}
+use Rattle.fsrm_model.specs.lines.TemplateWords.{update_word, update_named, update_from, name_from}
 use Rattle.fsrm_base.proofs.Look.{found_passes}
 use Rattle.fsrm_model.proofs.lines.LineValues.{AsLine, guarded_line, known_line}
 use Rattle.fsrm_model.proofs.lines.ReadLaws.{guarded_ok, guarded_from}

@@ -2,12 +2,12 @@
 use Rattle.std.proofs.Common.{◌≡◌, ℕ, List, true, refl, sym, ◌∙◌, ap, subst}
 use Rattle.std.specs.Prelude.{Ok, ◌==◌, bytes_eq}
 use Rattle.std.proofs.lemmas.Slice.Eq.{bytes_eq-Decides}
-use Rattle.fsrm_model.specs.ActionWords.{action_from, notice_from}
-use Rattle.fsrm_model.specs.ValueForms.{ValueForm, PathForm, LimitForm, NumberForm, ChoiceForm, UpdateForm, ObjectForm, NameForm, MembersForm, NonMembersForm, NoticeForm, ActionForm, Value, PathValue, NumberValue, ChoiceValue, UpdateValue, TextValue, TextsValue, NoticeValue, ActionValue, value_from, same_form}
-use Rattle.fsrm_model.specs.GroupWords.{object_from, patterns_from, non_members_from}
-use Rattle.fsrm_model.specs.Reading.{Read, ◌>>=◌, number_from, path_from, limit_from, choice_from}
-use Rattle.fsrm_model.specs.Spelling.{WritesValue}
-use Rattle.fsrm_model.specs.TemplateWords.{update_from, name_from}
+use Rattle.fsrm_model.specs.texts.ActionWords.{action_from, notice_from}
+use Rattle.fsrm_model.specs.lines.ValueForms.{ValueForm, PathForm, LimitForm, NumberForm, ChoiceForm, UpdateForm, ObjectForm, NameForm, MembersForm, NonMembersForm, NoticeForm, ActionForm, Value, PathValue, NumberValue, ChoiceValue, UpdateValue, TextValue, TextsValue, NoticeValue, ActionValue, value_from, same_form}
+use Rattle.fsrm_model.specs.lines.GroupWords.{object_from, patterns_from, non_members_from}
+use Rattle.fsrm_model.specs.lines.Reading.{Read, ◌>>=◌, number_from, path_from, limit_from, choice_from}
+use Rattle.fsrm_model.specs.meaning.Spelling.{WritesValue}
+use Rattle.fsrm_model.specs.lines.TemplateWords.{update_from, name_from}
 use Rattle.fsrm_base.proofs.TestLaws.{both, both_true, eq_is, eq_same}
 use Rattle.fsrm_model.proofs.lines.ActionLaws.{action_writes, action_reads, action_line, notice_writes, notice_reads, notice_line}
 use Rattle.fsrm_model.proofs.lines.GroupWordLaws.{object_writes, object_reads, object_line, patterns_writes, patterns_reads, patterns_line, non_members_writes, non_members_reads, non_members_line}

@@ -14,10 +14,10 @@ use Rattle.std.proofs.lemmas.List.Sums.{split_at_first, passes_at_first, take_wh
 use Rattle.std.proofs.lemmas.Slice.Eq.{bytes_eq-Decides}
 use Rattle.fsrm_model.specs.declared.command.Refusal.{Refusal}
 use Rattle.fsrm_model.specs.declared.command.Refusal.TheVariants.{BadLine, InvalidLimit}
-use Rattle.fsrm_model.specs.Options.{is_colon}
-use Rattle.fsrm_model.specs.Quota.{is_limit}
-use Rattle.fsrm_model.specs.Reading.{Read, ◌>>=◌, guarded, known, units, unit_bytes, digits_of, limit_from, choice_from}
-use Rattle.fsrm_model.specs.Spelling.{IsNamed, WritesLimit, WritesChoice}
+use Rattle.fsrm_model.specs.lines.Options.{is_colon}
+use Rattle.fsrm_model.specs.objects.Quota.{is_limit}
+use Rattle.fsrm_model.specs.lines.Reading.{Read, ◌>>=◌, guarded, known, units, unit_bytes, digits_of, limit_from, choice_from}
+use Rattle.fsrm_model.specs.meaning.Spelling.{IsNamed, WritesLimit, WritesChoice}
 use Rattle.fsrm_model.proofs.lines.ReadLaws.{both_ok, guarded_ok, guarded_then, guarded_from}
 
 -- two spellings of one name

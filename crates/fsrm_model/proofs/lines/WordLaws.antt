@@ -5,8 +5,8 @@ use Rattle.std.specs.List.{list_all, list_any, onto_first}
 use Rattle.std.proofs.lemmas.Bool.{and_parts, and_from, or_parts, eqb-true, true≢false, cases_Bool, and_right, or_from}
 use Rattle.std.proofs.lemmas.List.{append-nil}
 use Rattle.std.proofs.lemmas.List.Sums.{sum_by-cons}
-use Rattle.fsrm_model.specs.Spelling.{Piece, Plain, Quoted, ArePieces, spelled_pieces, text_of_pieces, SpellsWord, EndsWord, SpellsWords}
-use Rattle.fsrm_model.specs.Words.{Word, is_blank, is_quote, parts_from, without_quotes, words_at, is_closed, last_quote, words}
+use Rattle.fsrm_model.specs.meaning.Spelling.{Piece, Plain, Quoted, ArePieces, spelled_pieces, text_of_pieces, SpellsWord, EndsWord, SpellsWords}
+use Rattle.fsrm_model.specs.lines.Words.{Word, is_blank, is_quote, parts_from, without_quotes, words_at, is_closed, last_quote, words}
 use Rattle.fsrm_model.specs.declared.command.Refusal.TheVariants.{BadLine}
 use Rattle.fsrm_model.proofs.lines.PathLaws.{in_front, in_front-empty}
 

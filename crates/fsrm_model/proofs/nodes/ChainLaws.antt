@@ -6,8 +6,8 @@ use Rattle.std.specs.List.{AllByRecursion}
 use Rattle.fsrm_model.specs.declared.row.Capacity.{Capacity}
 use Rattle.fsrm_model.specs.declared.row.NodeRow.{NodeRow}
 use Rattle.fsrm_base.specs.Keyed.{with_row, has_row}
-use Rattle.fsrm_model.specs.Space.{space}
-use Rattle.fsrm_model.specs.Tree.{number, chain_in, chain, parent_of, is_under, usage}
+use Rattle.fsrm_model.specs.values.Space.{space}
+use Rattle.fsrm_model.specs.nodes.Tree.{number, chain_in, chain, parent_of, is_under, usage}
 use Rattle.fsrm_base.proofs.TestLaws.{not_true, is_or, neither, eq_is, eq_same, not_root}
 use Rattle.fsrm_base.specs.Numbers.{is_in}
 use Rattle.fsrm_base.proofs.EditedRows.{sum_by-filter, sum_by-with_row, sum_by_same, find-with_row, all_rows, length-with_row, find-with_row_same}

@@ -6,8 +6,8 @@ use Rattle.std.specs.List.{AllByRecursion}
 use Rattle.fsrm_model.specs.declared.row.Capacity.{Capacity}
 use Rattle.fsrm_model.specs.declared.row.NodeRow.{NodeRow}
 use Rattle.fsrm_base.specs.Keyed.{with_change, is_ascending}
-use Rattle.fsrm_model.specs.Space.{space}
-use Rattle.fsrm_model.specs.Tree.{number, node_of, parent_of, chain, chain_in, is_under, usage}
+use Rattle.fsrm_model.specs.values.Space.{space}
+use Rattle.fsrm_model.specs.nodes.Tree.{number, node_of, parent_of, chain, chain_in, is_under, usage}
 use Rattle.fsrm_base.specs.Numbers.{is_in}
 use Rattle.fsrm_model.proofs.nodes.ChainLaws.{share, usage_is}
 use Rattle.fsrm_base.proofs.EditedRows.{sum_by_same, all_rows, sum_by-with_change, length-change}

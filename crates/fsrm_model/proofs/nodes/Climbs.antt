@@ -1,7 +1,7 @@
 -- The way up from a node to the root.
 use Rattle.std.proofs.Common.{◌≡◌, ℕ, zero, suc, ◌<◌, ◌≤◌, ◌==◌, true, false, ◌||◌, ◌⊎◌, inl, inr, List, [], ◌∷◌, drop, length, refl, sym, ◌∙◌, ap, subst, arith}
 use Rattle.fsrm_model.specs.declared.row.NodeRow.{NodeRow}
-use Rattle.fsrm_model.specs.Tree.{above, chain, chain_in, is_under, parent_of}
+use Rattle.fsrm_model.specs.nodes.Tree.{above, chain, chain_in, is_under, parent_of}
 use Rattle.fsrm_base.specs.Numbers.{is_in}
 use Rattle.fsrm_base.proofs.TestLaws.{clash, eq_is, eq_same, is_apart, is_or_not}
 use Rattle.fsrm_model.proofs.nodes.Below.{chain_root}

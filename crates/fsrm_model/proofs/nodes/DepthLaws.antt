@@ -6,7 +6,7 @@ use Rattle.std.specs.Cmp.{nat_eq_equiv}
 use Rattle.std.specs.List.{list_any, AllByRecursion, IsDistinct}
 use Rattle.fsrm_model.specs.declared.row.NodeRow.{NodeRow}
 use Rattle.fsrm_base.specs.Keyed.{has_row}
-use Rattle.fsrm_model.specs.Tree.{number, parent_of, chain, chain_in}
+use Rattle.fsrm_model.specs.nodes.Tree.{number, parent_of, chain, chain_in}
 use Rattle.fsrm_base.proofs.TestLaws.{not_true, is_or, eq_is, not_root}
 use Rattle.fsrm_base.specs.Numbers.{is_in}
 use Rattle.fsrm_model.proofs.nodes.ChainLaws.{IsTree, Has, stable}

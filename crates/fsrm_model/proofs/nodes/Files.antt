@@ -2,8 +2,8 @@
 use Rattle.std.proofs.Common.{◌≡◌, ℕ, zero, suc, ◌≤◌, ◌==◌, true, false, inl, inr, List, ◌∷◌, length, sym, ◌∙◌, ap, arith}
 use Rattle.fsrm_model.specs.declared.row.Capacity.{Capacity}
 use Rattle.fsrm_model.specs.declared.row.NodeRow.{NodeRow}
-use Rattle.fsrm_model.specs.Tree.{number, parent_of, is_folder, chain, is_under}
-use Rattle.fsrm_model.specs.Valid.{IsVolume}
+use Rattle.fsrm_model.specs.nodes.Tree.{number, parent_of, is_folder, chain, is_under}
+use Rattle.fsrm_model.specs.store.Valid.{IsVolume}
 use Rattle.fsrm_base.proofs.TestLaws.{is_or_not, clash, is_or, eq_is}
 use Rattle.fsrm_model.proofs.nodes.ChainLaws.{Has, chain_step}
 use Rattle.fsrm_base.specs.Numbers.{is_in}

@@ -10,10 +10,10 @@ use Rattle.std.specs.List.{list_any}
 use Rattle.fsrm_model.specs.declared.row.Capacity.{Capacity}
 use Rattle.fsrm_model.specs.declared.row.NodeRow.{NodeRow}
 use Rattle.fsrm_base.specs.Keyed.{is_ascending, has_row, with_row, with_change, without_row}
-use Rattle.fsrm_model.specs.Name.{same_name, folded}
-use Rattle.fsrm_model.specs.Tree.{number, node_of, parent_of, is_folder, is_child, child_of, chain, name_bytes}
-use Rattle.fsrm_model.specs.FileOps.{placed}
-use Rattle.fsrm_model.specs.Valid.{is_root_node, is_own, IsVolume}
+use Rattle.fsrm_model.specs.values.Name.{same_name, folded}
+use Rattle.fsrm_model.specs.nodes.Tree.{number, node_of, parent_of, is_folder, is_child, child_of, chain, name_bytes}
+use Rattle.fsrm_model.specs.nodes.FileOps.{placed}
+use Rattle.fsrm_model.specs.store.Valid.{is_root_node, is_own, IsVolume}
 use Rattle.fsrm_base.proofs.TestLaws.{is_or_not, clash, not_true, is_false, both, both_true, eq_is, eq_same, eq_turned}
 use Rattle.fsrm_model.proofs.valid.ValidLaws.{folder_has, found_parent}
 use Rattle.fsrm_base.specs.Numbers.{is_in}

@@ -7,8 +7,8 @@ use Rattle.std.specs.List.{AllByRecursion}
 use Rattle.fsrm_model.specs.declared.row.Capacity.{Capacity}
 use Rattle.fsrm_model.specs.declared.row.NodeRow.{NodeRow}
 use Rattle.fsrm_base.specs.Keyed.{has_row, with_change}
-use Rattle.fsrm_model.specs.Space.{space}
-use Rattle.fsrm_model.specs.Tree.{number, parent_of, chain, chain_in, is_under, usage}
+use Rattle.fsrm_model.specs.values.Space.{space}
+use Rattle.fsrm_model.specs.nodes.Tree.{number, parent_of, chain, chain_in, is_under, usage}
 use Rattle.fsrm_base.proofs.TestLaws.{is_or_not, clash, not_true, is_or, neither, or_later, or_false, eq_is, eq_same, not_root}
 use Rattle.fsrm_base.specs.Numbers.{is_in}
 use Rattle.fsrm_model.proofs.nodes.ChainLaws.{IsTree, Has, stable, same_chain, share, usage_is}

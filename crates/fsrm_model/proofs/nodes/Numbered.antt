@@ -5,7 +5,7 @@ use Rattle.std.specs.Prelude.{map, filter}
 use Rattle.fsrm_model.specs.declared.row.NodeRow.{NodeRow}
 use Rattle.fsrm_base.specs.Keyed.{is_ascending, has_row, row_of}
 use Rattle.fsrm_base.specs.Numbers.{is_in, is_set}
-use Rattle.fsrm_model.specs.Tree.{number, node_of}
+use Rattle.fsrm_model.specs.nodes.Tree.{number, node_of}
 use Rattle.fsrm_base.proofs.EditedRows.{absent_later, ascending_tail}
 use Rattle.fsrm_base.proofs.Look.{none_row, is_some-find}
 use Rattle.fsrm_base.proofs.Order.{ascending-filter}

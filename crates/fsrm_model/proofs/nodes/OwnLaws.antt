@@ -3,10 +3,10 @@ use Rattle.std.proofs.Common.{◌≡◌, ℕ, ◌≤◌, ◌==◌, Bool, true, f
 use Rattle.std.specs.Prelude.{if◌then◌else◌}
 use Rattle.fsrm_model.specs.declared.row.Capacity.{Capacity}
 use Rattle.fsrm_model.specs.declared.row.NodeRow.{NodeRow}
-use Rattle.fsrm_model.specs.Limits.{latest_moment, longest_file}
-use Rattle.fsrm_model.specs.Name.{is_name}
-use Rattle.fsrm_model.specs.Tree.{number, is_folder}
-use Rattle.fsrm_model.specs.Valid.{IsVolume, is_own}
+use Rattle.fsrm_model.specs.values.Limits.{latest_moment, longest_file}
+use Rattle.fsrm_model.specs.values.Name.{is_name}
+use Rattle.fsrm_model.specs.nodes.Tree.{number, is_folder}
+use Rattle.fsrm_model.specs.store.Valid.{IsVolume, is_own}
 use Rattle.fsrm_model.proofs.nodes.Keeps.{found_folder}
 use Rattle.fsrm_base.proofs.Look.{has_found}
 use Rattle.fsrm_base.proofs.TestLaws.{both, clash, is_inner, le_test, lt_test}

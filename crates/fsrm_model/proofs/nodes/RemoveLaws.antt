@@ -5,8 +5,8 @@ use Rattle.std.specs.List.{AllByRecursion}
 use Rattle.fsrm_model.specs.declared.row.Capacity.{Capacity}
 use Rattle.fsrm_model.specs.declared.row.NodeRow.{NodeRow}
 use Rattle.fsrm_base.specs.Keyed.{has_row, without_row, is_ascending}
-use Rattle.fsrm_model.specs.Tree.{number, node_of, parent_of, chain, chain_in, usage}
-use Rattle.fsrm_model.specs.Space.{space}
+use Rattle.fsrm_model.specs.nodes.Tree.{number, node_of, parent_of, chain, chain_in, usage}
+use Rattle.fsrm_model.specs.values.Space.{space}
 use Rattle.fsrm_base.proofs.TestLaws.{clash, not_true, eq_is, nor}
 use Rattle.fsrm_base.specs.Numbers.{is_in}
 use Rattle.fsrm_model.proofs.nodes.ChainLaws.{IsTree, Has, same_chain, share, usage_is}

@@ -9,10 +9,10 @@ use Rattle.std.specs.Option.{option_and_then}
 use Rattle.fsrm_model.specs.declared.row.Capacity.{Capacity}
 use Rattle.fsrm_model.specs.declared.row.NodeRow.{NodeRow}
 use Rattle.fsrm_base.specs.Keyed.{has_row}
-use Rattle.fsrm_model.specs.Name.{same_name, same_names, folded}
-use Rattle.fsrm_model.specs.Tree.{number, node_of, name_of, is_folder, child_of, child_number, chain, path_of, resolve, folder_part, last_name}
-use Rattle.fsrm_model.specs.Leads.{is_root}
-use Rattle.fsrm_model.specs.Valid.{IsVolume}
+use Rattle.fsrm_model.specs.values.Name.{same_name, same_names, folded}
+use Rattle.fsrm_model.specs.nodes.Tree.{number, node_of, name_of, is_folder, child_of, child_number, chain, path_of, resolve, folder_part, last_name}
+use Rattle.fsrm_model.specs.nodes.Leads.{is_root}
+use Rattle.fsrm_model.specs.store.Valid.{IsVolume}
 use Rattle.fsrm_base.proofs.TestLaws.{both}
 use Rattle.fsrm_model.proofs.nodes.DepthLaws.{some_member}
 use Rattle.fsrm_base.proofs.Look.{found_has}

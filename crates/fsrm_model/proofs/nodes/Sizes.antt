@@ -1,9 +1,9 @@
 -- How many nodes there are, and how many bytes their names have, when one is new, moved or gone.
 use Rattle.std.proofs.Common.{◌≡◌, ℕ, ◌+◌, true, List, length, ap, arith}
 use Rattle.fsrm_model.specs.declared.row.NodeRow.{NodeRow}
-use Rattle.fsrm_model.specs.FileOps.{placed}
+use Rattle.fsrm_model.specs.nodes.FileOps.{placed}
 use Rattle.fsrm_base.specs.Keyed.{is_ascending, has_row, with_row, with_change, without_row}
-use Rattle.fsrm_model.specs.Tree.{number, name_of, name_bytes}
+use Rattle.fsrm_model.specs.nodes.Tree.{number, name_of, name_bytes}
 use Rattle.fsrm_base.proofs.EditedRows.{sum_by-with_row, sum_by-with_change, sum_by-without_row}
 use Rattle.fsrm_base.proofs.Sums.{sum_by-ones}
 use Rattle.fsrm_base.proofs.Look.{has_found}

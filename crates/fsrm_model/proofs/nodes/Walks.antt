@@ -7,9 +7,9 @@ use Rattle.std.specs.Option.{option_map_or, option_and_then}
 use Rattle.std.specs.List.{list_any}
 use Rattle.fsrm_model.specs.declared.row.Capacity.{Capacity}
 use Rattle.fsrm_model.specs.declared.row.NodeRow.{NodeRow}
-use Rattle.fsrm_model.specs.Name.{same_name, same_names}
-use Rattle.fsrm_model.specs.Tree.{number, node_of, name_of, parent_of, is_child, child_of, child_number, chain, path_of, resolve}
-use Rattle.fsrm_model.specs.Valid.{IsVolume}
+use Rattle.fsrm_model.specs.values.Name.{same_name, same_names}
+use Rattle.fsrm_model.specs.nodes.Tree.{number, node_of, name_of, parent_of, is_child, child_of, child_number, chain, path_of, resolve}
+use Rattle.fsrm_model.specs.store.Valid.{IsVolume}
 use Rattle.fsrm_base.proofs.TestLaws.{clash, is_false, both, both_true, eq_is, suc_apart}
 use Rattle.fsrm_model.proofs.nodes.ChainLaws.{Has, chain_step}
 use Rattle.fsrm_model.proofs.nodes.DepthLaws.{some_member}

@@ -23,14 +23,14 @@ use Rattle.fsrm_model.specs.declared.row.AuditRow.{AuditRow}
 use Rattle.fsrm_model.specs.declared.row.Capacity.{Capacity}
 use Rattle.fsrm_model.specs.declared.row.QuotaState.TheVariants.{Complete}
 use Rattle.fsrm_model.specs.declared.row.Rows.{Rows}
-use Rattle.fsrm_model.specs.Audits.{audit_of, with_audit, tells_of_screen}
-use Rattle.fsrm_model.specs.Check.{Check, ◌when◌, first}
-use Rattle.fsrm_model.specs.DueActions.{due_refused}
-use Rattle.fsrm_model.specs.FileWork.{judged_name, blocked, reported, file_checks, file_effect}
-use Rattle.fsrm_model.specs.QuotaStates.{with_state, followed, head}
-use Rattle.fsrm_model.specs.Scan.{visits}
-use Rattle.fsrm_model.specs.Step.{step, work, screened_by, screened, ran_if_any, refused_leaving, refused, decided, lasted, unlasting}
-use Rattle.fsrm_model.specs.Work.{Work, Judged}
+use Rattle.fsrm_model.specs.objects.Audits.{audit_of, with_audit, tells_of_screen}
+use Rattle.fsrm_model.specs.commands.Check.{Check, ◌when◌, first}
+use Rattle.fsrm_model.specs.objects.DueActions.{due_refused}
+use Rattle.fsrm_model.specs.commands.FileWork.{judged_name, blocked, reported, file_checks, file_effect}
+use Rattle.fsrm_model.specs.objects.QuotaStates.{with_state, followed, head}
+use Rattle.fsrm_model.specs.objects.Scan.{visits}
+use Rattle.fsrm_model.specs.commands.Step.{step, work, screened_by, screened, ran_if_any, refused_leaving, refused, decided, lasted, unlasting}
+use Rattle.fsrm_model.specs.commands.Work.{Work, Judged}
 use Rattle.fsrm_model.proofs.commands.Ends.{outcome_kept}
 use Rattle.fsrm_model.proofs.commands.Orderly.{first_none, when_none}
 use Rattle.fsrm_model.proofs.commands.OrderlyLaws.{verdict, refused_outcome}

@@ -10,10 +10,10 @@ use Rattle.fsrm_base.proofs.TestLaws.{is_or_not, clash, not_true, is_false, both
 use Rattle.fsrm_model.specs.declared.row.Capacity.{Capacity}
 use Rattle.fsrm_model.specs.declared.row.Rows.{Rows}
 use Rattle.fsrm_model.specs.declared.row.ScreenRow.{ScreenRow}
-use Rattle.fsrm_model.specs.Judges.{Applies, Judges}
-use Rattle.fsrm_model.specs.Screens.{screen_folder, screen_of, in_groups, is_excepted, nearer, applies, applying, judging}
-use Rattle.fsrm_model.specs.Tree.{chain, is_under}
-use Rattle.fsrm_model.specs.Valid.{IsValid}
+use Rattle.fsrm_model.specs.meaning.Judges.{Applies, Judges}
+use Rattle.fsrm_model.specs.objects.Screens.{screen_folder, screen_of, in_groups, is_excepted, nearer, applies, applying, judging}
+use Rattle.fsrm_model.specs.nodes.Tree.{chain, is_under}
+use Rattle.fsrm_model.specs.store.Valid.{IsValid}
 use Rattle.fsrm_model.proofs.commands.QuotaLaws.{find_both}
 use Rattle.fsrm_model.proofs.nodes.ChainLaws.{Has, IsTree}
 use Rattle.fsrm_model.proofs.nodes.Keeps.{tree_of}

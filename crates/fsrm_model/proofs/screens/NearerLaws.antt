@@ -6,8 +6,8 @@ use Rattle.fsrm_base.specs.Numbers.{is_in}
 use Rattle.fsrm_base.proofs.Look.{found_has}
 use Rattle.fsrm_base.proofs.TestLaws.{is_or_not, clash, is_or, neither, or_later, or_false, eq_is, eq_turned, not_root}
 use Rattle.fsrm_model.specs.declared.row.NodeRow.{NodeRow}
-use Rattle.fsrm_model.specs.Screens.{nearer}
-use Rattle.fsrm_model.specs.Tree.{number, node_of, parent_of, chain_in, chain}
+use Rattle.fsrm_model.specs.objects.Screens.{nearer}
+use Rattle.fsrm_model.specs.nodes.Tree.{number, node_of, parent_of, chain_in, chain}
 use Rattle.fsrm_model.proofs.nodes.Below.{chain_root, each_above}
 use Rattle.fsrm_model.proofs.nodes.ChainLaws.{Has, IsTree, chain_in_has}
 use Rattle.fsrm_model.proofs.nodes.MoveLaws.{same_any, own_first}

@@ -23,14 +23,14 @@ use Rattle.fsrm_model.specs.declared.command.ScreenDeed.TheVariants.{List as Scr
 use Rattle.fsrm_model.specs.declared.command.TemplateDeed.TheVariants.{List as TemplateList}
 use Rattle.fsrm_model.specs.declared.row.Capacity.{Capacity}
 use Rattle.fsrm_model.specs.declared.row.Rows.{Rows}
-use Rattle.fsrm_model.specs.Acts.{of_screens}
-use Rattle.fsrm_model.specs.Audits.{tells_of_screen}
-use Rattle.fsrm_model.specs.DueActions.{due, due_refused, due_screen}
-use Rattle.fsrm_model.specs.FileWork.{judged_name, reported}
-use Rattle.fsrm_model.specs.Quota.{peaks}
-use Rattle.fsrm_model.specs.QuotaStates.{followed}
-use Rattle.fsrm_model.specs.Step.{step, work, screened, refused, decided, lasted, unlasting}
-use Rattle.fsrm_model.specs.Work.{Work, Judged}
+use Rattle.fsrm_model.specs.objects.Acts.{of_screens}
+use Rattle.fsrm_model.specs.objects.Audits.{tells_of_screen}
+use Rattle.fsrm_model.specs.objects.DueActions.{due, due_refused, due_screen}
+use Rattle.fsrm_model.specs.commands.FileWork.{judged_name, reported}
+use Rattle.fsrm_model.specs.objects.Quota.{peaks}
+use Rattle.fsrm_model.specs.objects.QuotaStates.{followed}
+use Rattle.fsrm_model.specs.commands.Step.{step, work, screened, refused, decided, lasted, unlasting}
+use Rattle.fsrm_model.specs.commands.Work.{Work, Judged}
 use Rattle.fsrm_model.proofs.commands.Ends.{outcome_kept}
 use Rattle.fsrm_model.proofs.commands.OrderlyLaws.{verdict, refused_outcome, refused_leaves}
 use Rattle.fsrm_model.proofs.commands.StepActs.{no_screens, parted}

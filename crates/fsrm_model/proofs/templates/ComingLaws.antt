@@ -16,13 +16,13 @@ use Rattle.fsrm_model.specs.declared.row.QuotaRow.{QuotaRow}
 use Rattle.fsrm_model.specs.declared.row.QuotaState.{QuotaState}
 use Rattle.fsrm_model.specs.declared.row.QuotaState.TheVariants.{Complete, Rebuilding}
 use Rattle.fsrm_model.specs.declared.row.Rows.{Rows}
-use Rattle.fsrm_model.specs.AutoApply.{applied, template_for}
-use Rattle.fsrm_model.specs.FileOps.{placed}
-use Rattle.fsrm_model.specs.Quota.{quota_of}
-use Rattle.fsrm_model.specs.QuotaStates.{start}
-use Rattle.fsrm_model.specs.Templates.{template_of, derived}
-use Rattle.fsrm_model.specs.Tree.{number, node_of, parent_of, name_of, is_folder, is_child, is_under, chain}
-use Rattle.fsrm_model.specs.Valid.{IsVolume}
+use Rattle.fsrm_model.specs.objects.AutoApply.{applied, template_for}
+use Rattle.fsrm_model.specs.nodes.FileOps.{placed}
+use Rattle.fsrm_model.specs.objects.Quota.{quota_of}
+use Rattle.fsrm_model.specs.objects.QuotaStates.{start}
+use Rattle.fsrm_model.specs.objects.Templates.{template_of, derived}
+use Rattle.fsrm_model.specs.nodes.Tree.{number, node_of, parent_of, name_of, is_folder, is_child, is_under, chain}
+use Rattle.fsrm_model.specs.store.Valid.{IsVolume}
 use Rattle.fsrm_model.proofs.nodes.ChainLaws.{Has}
 use Rattle.fsrm_model.proofs.nodes.Climbs.{shorter, under_own}
 use Rattle.fsrm_model.proofs.nodes.Keeps.{tree_of}

@@ -10,11 +10,11 @@ use Rattle.fsrm_model.specs.declared.row.NodeRow.{NodeRow}
 use Rattle.fsrm_model.specs.declared.row.QuotaRow.{QuotaRow}
 use Rattle.fsrm_model.specs.declared.row.Rows.{Rows}
 use Rattle.fsrm_model.specs.declared.row.TemplateRow.{TemplateRow}
-use Rattle.fsrm_model.specs.AutoApply.{auto_of, excludes, applied, subfolders}
-use Rattle.fsrm_model.specs.Quota.{quota_of}
-use Rattle.fsrm_model.specs.QuotaStates.{start}
-use Rattle.fsrm_model.specs.Templates.{template_of, derived}
-use Rattle.fsrm_model.specs.Tree.{number, parent_of, name_of, is_child, children}
+use Rattle.fsrm_model.specs.objects.AutoApply.{auto_of, excludes, applied, subfolders}
+use Rattle.fsrm_model.specs.objects.Quota.{quota_of}
+use Rattle.fsrm_model.specs.objects.QuotaStates.{start}
+use Rattle.fsrm_model.specs.objects.Templates.{template_of, derived}
+use Rattle.fsrm_model.specs.nodes.Tree.{number, parent_of, name_of, is_child, children}
 use Rattle.fsrm_model.proofs.valid.ValidLaws.{found_parent}
 
 -- a folder that an auto-apply quota gives one

@@ -7,12 +7,12 @@ use Rattle.fsrm_model.specs.declared.row.AutoRow.{AutoRow}
 use Rattle.fsrm_model.specs.declared.row.QuotaRow.{QuotaRow}
 use Rattle.fsrm_model.specs.declared.row.Rows.{Rows}
 use Rattle.fsrm_model.specs.declared.row.TemplateRow.{TemplateRow}
-use Rattle.fsrm_model.specs.AutoApply.{auto_of, excludes, applied}
-use Rattle.fsrm_model.specs.Derives.{Gets}
-use Rattle.fsrm_model.specs.Quota.{quota_of}
-use Rattle.fsrm_model.specs.QuotaStates.{start}
-use Rattle.fsrm_model.specs.Templates.{template_of, derived}
-use Rattle.fsrm_model.specs.Tree.{parent_of, name_of}
+use Rattle.fsrm_model.specs.objects.AutoApply.{auto_of, excludes, applied}
+use Rattle.fsrm_model.specs.meaning.Derives.{Gets}
+use Rattle.fsrm_model.specs.objects.Quota.{quota_of}
+use Rattle.fsrm_model.specs.objects.QuotaStates.{start}
+use Rattle.fsrm_model.specs.objects.Templates.{template_of, derived}
+use Rattle.fsrm_model.specs.nodes.Tree.{parent_of, name_of}
 
 pub gets : (R : Rows) (moment folder : ℕ) (quota : QuotaRow) → (applied R moment folder ≡ Some quota) ↔ Gets R moment folder quota
 gets R moment folder quota = (λ h. by_quota (is_some (quota_of R folder)) refl h, back)

@@ -16,8 +16,8 @@ use Rattle.fsrm_model.specs.declared.row.ActionKind.TheVariants.{Event, Mail, Pr
 use Rattle.fsrm_model.specs.declared.row.QuotaRow.{QuotaRow}
 use Rattle.fsrm_model.specs.declared.row.TemplateRow.{TemplateRow}
 use Rattle.fsrm_model.specs.declared.row.Threshold.{Threshold}
-use Rattle.fsrm_model.specs.Derives.{unrun, unrun_threshold, Matches, Reaches}
-use Rattle.fsrm_model.specs.Templates.{is_derived, without_source, same_kind, same_action, same_threshold, matches_template, is_reached, as_template, updated}
+use Rattle.fsrm_model.specs.meaning.Derives.{unrun, unrun_threshold, Matches, Reaches}
+use Rattle.fsrm_model.specs.objects.Templates.{is_derived, without_source, same_kind, same_action, same_threshold, matches_template, is_reached, as_template, updated}
 
 -- ---- a test that says that two things are one after a change
 record Tells {X Y : Type 0} (test : X → X → Bool) (f : X → Y) : Type 0 where

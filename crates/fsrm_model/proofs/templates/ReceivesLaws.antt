@@ -18,18 +18,18 @@ use Rattle.fsrm_model.specs.declared.row.Capacity.{Capacity}
 use Rattle.fsrm_model.specs.declared.row.QuotaRow.{QuotaRow}
 use Rattle.fsrm_model.specs.declared.row.Rows.{Rows}
 use Rattle.fsrm_model.specs.declared.row.TemplateRow.{TemplateRow}
-use Rattle.fsrm_model.specs.AutoApply.{applied, quotas_with, subfolders}
-use Rattle.fsrm_model.specs.Check.{◌when◌}
-use Rattle.fsrm_model.specs.FileOps.{plain, target}
-use Rattle.fsrm_model.specs.Leads.{leads_to_folder}
-use Rattle.fsrm_model.specs.Quota.{folder_of, quota_of}
-use Rattle.fsrm_model.specs.Receives.{ended, Modifies, with_auto, moved_folder, Gives}
-use Rattle.fsrm_model.specs.Step.{Stepped, is_accepted, step, work, decided}
-use Rattle.fsrm_model.specs.Templates.{template_number, template_named, updated}
-use Rattle.fsrm_model.specs.TemplateWork.{number_in, retemplated, updated_quotas, template_modify_work}
-use Rattle.fsrm_model.specs.Tree.{fresh}
-use Rattle.fsrm_model.specs.Valid.{IsValid}
-use Rattle.fsrm_model.specs.Work.{Work}
+use Rattle.fsrm_model.specs.objects.AutoApply.{applied, quotas_with, subfolders}
+use Rattle.fsrm_model.specs.commands.Check.{◌when◌}
+use Rattle.fsrm_model.specs.nodes.FileOps.{plain, target}
+use Rattle.fsrm_model.specs.nodes.Leads.{leads_to_folder}
+use Rattle.fsrm_model.specs.objects.Quota.{folder_of, quota_of}
+use Rattle.fsrm_model.specs.meaning.Receives.{ended, Modifies, with_auto, moved_folder, Gives}
+use Rattle.fsrm_model.specs.commands.Step.{Stepped, is_accepted, step, work, decided}
+use Rattle.fsrm_model.specs.objects.Templates.{template_number, template_named, updated}
+use Rattle.fsrm_model.specs.commands.TemplateWork.{number_in, retemplated, updated_quotas, template_modify_work}
+use Rattle.fsrm_model.specs.nodes.Tree.{fresh}
+use Rattle.fsrm_model.specs.store.Valid.{IsValid}
+use Rattle.fsrm_model.specs.commands.Work.{Work}
 use Rattle.fsrm_base.proofs.Look.{has_row-new_other, is_some-find, row_of-new_other}
 use Rattle.fsrm_base.proofs.EditedRows.{find-with_row_same}
 use Rattle.fsrm_base.proofs.TestLaws.{both, clash, eq_is, eq_same, eq_turned, is_false, is_or_not, not_true, or_later}

@@ -15,12 +15,12 @@ use Rattle.fsrm_model.specs.declared.row.QuotaRow.{QuotaRow}
 use Rattle.fsrm_model.specs.declared.row.Rows.{Rows}
 use Rattle.fsrm_model.specs.declared.row.TemplateRow.{TemplateRow}
 use Rattle.fsrm_model.specs.declared.row.Threshold.{Threshold}
-use Rattle.fsrm_model.specs.DueActions.{quota_acts, due}
-use Rattle.fsrm_model.specs.Quota.{folder_of, quota_of, counts, used_of, peaked, peaks}
-use Rattle.fsrm_model.specs.Reached.{reaches, has_reached, reached, crossed}
-use Rattle.fsrm_model.specs.Templates.{is_reached, as_template, updated}
-use Rattle.fsrm_model.specs.Thresholds.{percent_of}
-use Rattle.fsrm_model.specs.Tree.{usage}
+use Rattle.fsrm_model.specs.objects.DueActions.{quota_acts, due}
+use Rattle.fsrm_model.specs.objects.Quota.{folder_of, quota_of, counts, used_of, peaked, peaks}
+use Rattle.fsrm_model.specs.objects.Reached.{reaches, has_reached, reached, crossed}
+use Rattle.fsrm_model.specs.objects.Templates.{is_reached, as_template, updated}
+use Rattle.fsrm_model.specs.objects.Thresholds.{percent_of}
+use Rattle.fsrm_model.specs.nodes.Tree.{usage}
 use Rattle.fsrm_model.proofs.commands.QuotaLaws.{peaked_folder}
 use Rattle.fsrm_model.proofs.thresholds.SettleLaws.{no_acts}
 

@@ -13,12 +13,12 @@ use Rattle.fsrm_model.specs.declared.row.QuotaRow.{QuotaRow}
 use Rattle.fsrm_model.specs.declared.row.Rows.{Rows}
 use Rattle.fsrm_model.specs.declared.row.Threshold.{Threshold}
 use Rattle.fsrm_base.specs.Keyed.{row_of, is_ascending}
-use Rattle.fsrm_model.specs.Acts.{folder_in, percent_in, is_of_quota, actions_of, IsAct, act_before, are_in_order}
-use Rattle.fsrm_model.specs.DueActions.{ready, act_of, ready_acts, quota_acts, due, due_refused}
-use Rattle.fsrm_model.specs.Quota.{folder_of, quota_of, over, deepest}
-use Rattle.fsrm_model.specs.Raises.{are_ascending}
-use Rattle.fsrm_model.specs.Reached.{crossed}
-use Rattle.fsrm_model.specs.Thresholds.{percent_of, actions_at}
+use Rattle.fsrm_model.specs.objects.Acts.{folder_in, percent_in, is_of_quota, actions_of, IsAct, act_before, are_in_order}
+use Rattle.fsrm_model.specs.objects.DueActions.{ready, act_of, ready_acts, quota_acts, due, due_refused}
+use Rattle.fsrm_model.specs.objects.Quota.{folder_of, quota_of, over, deepest}
+use Rattle.fsrm_model.specs.meaning.Raises.{are_ascending}
+use Rattle.fsrm_model.specs.objects.Reached.{crossed}
+use Rattle.fsrm_model.specs.objects.Thresholds.{percent_of, actions_at}
 use Rattle.fsrm_base.proofs.EditedTests.{list_all-filter}
 use Rattle.fsrm_base.proofs.Order.{parts, ascending-filter}
 use Rattle.fsrm_base.proofs.RowLaws.{own_rows}

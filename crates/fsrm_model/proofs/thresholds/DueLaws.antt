@@ -14,12 +14,12 @@ use Rattle.fsrm_model.specs.declared.row.QuotaRow.{QuotaRow}
 use Rattle.fsrm_model.specs.declared.row.Rows.{Rows}
 use Rattle.fsrm_model.specs.declared.row.Threshold.{Threshold}
 use Rattle.fsrm_base.specs.Keyed.{row_of, has_row, is_ascending}
-use Rattle.fsrm_model.specs.Acts.{has_act, same_subject, actions_of}
-use Rattle.fsrm_model.specs.DueActions.{ready, is_ready_at, act_of, ready_acts, quota_acts, due}
-use Rattle.fsrm_model.specs.Quota.{folder_of, quota_of}
-use Rattle.fsrm_model.specs.Raises.{are_ascending}
-use Rattle.fsrm_model.specs.Reached.{crossed}
-use Rattle.fsrm_model.specs.Thresholds.{percent_of, actions_at}
+use Rattle.fsrm_model.specs.objects.Acts.{has_act, same_subject, actions_of}
+use Rattle.fsrm_model.specs.objects.DueActions.{ready, is_ready_at, act_of, ready_acts, quota_acts, due}
+use Rattle.fsrm_model.specs.objects.Quota.{folder_of, quota_of}
+use Rattle.fsrm_model.specs.meaning.Raises.{are_ascending}
+use Rattle.fsrm_model.specs.objects.Reached.{crossed}
+use Rattle.fsrm_model.specs.objects.Thresholds.{percent_of, actions_at}
 use Rattle.fsrm_base.proofs.EditedRows.{absent_later, ascending_tail}
 use Rattle.fsrm_base.proofs.TestLaws.{both, eq_is, eq_same, and_false}
 

@@ -7,7 +7,7 @@ use Rattle.std.proofs.lemmas.List.Sums.{sum_by-cons}
 use Rattle.std.specs.Prelude.{map, drop, filter, sum_by, if◌then◌else◌}
 use Rattle.std.specs.List.{list_any, list_all, enumerate_from}
 use Rattle.std.specs.Option.{option_map_or}
-use Rattle.fsrm_model.specs.Acts.{has_act}
+use Rattle.fsrm_model.specs.objects.Acts.{has_act}
 use Rattle.fsrm_model.specs.declared.command.Act.{Act}
 use Rattle.fsrm_model.specs.declared.command.Subject.{Subject}
 use Rattle.fsrm_model.specs.declared.command.Subject.TheVariants.{Quota, Screen}
@@ -18,11 +18,11 @@ use Rattle.fsrm_model.specs.declared.row.Rows.{Rows}
 use Rattle.fsrm_model.specs.declared.row.ScreenRow.{ScreenRow}
 use Rattle.fsrm_model.specs.declared.row.Threshold.{Threshold}
 use Rattle.fsrm_base.specs.Keyed.{is_ascending}
-use Rattle.fsrm_model.specs.Limits.{latest_moment, most_actions, most_entries, most_text_bytes, most_thresholds}
-use Rattle.fsrm_model.specs.Runs.{run_actions, run_threshold, run_quota, run_screen, last_entries, entry_of, ran}
-use Rattle.fsrm_model.specs.Texts.{action_bytes, quota_bytes, object_texts}
-use Rattle.fsrm_model.specs.Thresholds.{percent_of, is_percent, is_action, is_kept_action, is_threshold, is_crowded, are_too_many, are_thresholds}
-use Rattle.fsrm_model.specs.Valid.{is_moment, are_entries}
+use Rattle.fsrm_model.specs.values.Limits.{latest_moment, most_actions, most_entries, most_text_bytes, most_thresholds}
+use Rattle.fsrm_model.specs.objects.Runs.{run_actions, run_threshold, run_quota, run_screen, last_entries, entry_of, ran}
+use Rattle.fsrm_model.specs.values.Texts.{action_bytes, quota_bytes, object_texts}
+use Rattle.fsrm_model.specs.objects.Thresholds.{percent_of, is_percent, is_action, is_kept_action, is_threshold, is_crowded, are_too_many, are_thresholds}
+use Rattle.fsrm_model.specs.store.Valid.{is_moment, are_entries}
 use Rattle.fsrm_base.proofs.Order.{ascending-map}
 use Rattle.fsrm_base.proofs.TestLaws.{both, both_true, le_test}
 use Rattle.fsrm_model.proofs.thresholds.RunLaws.{with_run, few_entries}

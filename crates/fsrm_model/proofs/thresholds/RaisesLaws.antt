@@ -17,13 +17,13 @@ use Rattle.fsrm_model.specs.declared.row.Rows.{Rows}
 use Rattle.fsrm_model.specs.declared.row.ScreenRow.{ScreenRow}
 use Rattle.fsrm_model.specs.declared.row.Threshold.{Threshold}
 use Rattle.fsrm_base.specs.Keyed.{is_ascending, row_of, has_row}
-use Rattle.fsrm_model.specs.Acts.{has_act, same_subject, actions_of}
-use Rattle.fsrm_model.specs.DueActions.{ready, is_ready_at, quota_acts, due, due_refused, due_screen}
-use Rattle.fsrm_model.specs.Quota.{folder_of, quota_of, counts, refuses, over, deepest, exceeded}
-use Rattle.fsrm_model.specs.Raises.{are_ascending, Raises, RaisesRefused, RunsOfScreen}
-use Rattle.fsrm_model.specs.Reached.{crossed, IsReached}
-use Rattle.fsrm_model.specs.Thresholds.{percent_of, actions_at}
-use Rattle.fsrm_model.specs.Tree.{usage, is_under}
+use Rattle.fsrm_model.specs.objects.Acts.{has_act, same_subject, actions_of}
+use Rattle.fsrm_model.specs.objects.DueActions.{ready, is_ready_at, quota_acts, due, due_refused, due_screen}
+use Rattle.fsrm_model.specs.objects.Quota.{folder_of, quota_of, counts, refuses, over, deepest, exceeded}
+use Rattle.fsrm_model.specs.meaning.Raises.{are_ascending, Raises, RaisesRefused, RunsOfScreen}
+use Rattle.fsrm_model.specs.objects.Reached.{crossed, IsReached}
+use Rattle.fsrm_model.specs.objects.Thresholds.{percent_of, actions_at}
+use Rattle.fsrm_model.specs.nodes.Tree.{usage, is_under}
 use Rattle.fsrm_base.proofs.Look.{found_passes, found_own, found_has}
 use Rattle.fsrm_base.proofs.Members.{all_found}
 use Rattle.fsrm_base.proofs.TestLaws.{both, both_true, eq_is, eq_same}

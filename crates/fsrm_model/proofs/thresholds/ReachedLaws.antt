@@ -6,10 +6,10 @@ use Rattle.fsrm_model.specs.declared.row.Capacity.{Capacity}
 use Rattle.fsrm_model.specs.declared.row.QuotaRow.{QuotaRow}
 use Rattle.fsrm_model.specs.declared.row.Rows.{Rows}
 use Rattle.fsrm_base.specs.Keyed.{has_row}
-use Rattle.fsrm_model.specs.Quota.{folder_of, quota_of, counts, peaked, peaks}
-use Rattle.fsrm_model.specs.Reached.{reaches, has_reached, reached, IsReached, crossed}
-use Rattle.fsrm_model.specs.Thresholds.{percent_of}
-use Rattle.fsrm_model.specs.Tree.{usage}
+use Rattle.fsrm_model.specs.objects.Quota.{folder_of, quota_of, counts, peaked, peaks}
+use Rattle.fsrm_model.specs.objects.Reached.{reaches, has_reached, reached, IsReached, crossed}
+use Rattle.fsrm_model.specs.objects.Thresholds.{percent_of}
+use Rattle.fsrm_model.specs.nodes.Tree.{usage}
 use Rattle.fsrm_base.proofs.Look.{find-map}
 use Rattle.fsrm_base.proofs.TestLaws.{both, both_true, is_false, not_true, clash, le_is, le_test}
 

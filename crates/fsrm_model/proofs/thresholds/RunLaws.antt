@@ -14,13 +14,13 @@ use Rattle.fsrm_model.specs.declared.row.Rows.{Rows}
 use Rattle.fsrm_model.specs.declared.row.ScreenRow.{ScreenRow}
 use Rattle.fsrm_model.specs.declared.row.Threshold.{Threshold}
 use Rattle.fsrm_base.specs.Keyed.{row_of, has_row}
-use Rattle.fsrm_model.specs.Acts.{has_act, actions_of}
-use Rattle.fsrm_model.specs.Limits.{most_entries}
-use Rattle.fsrm_model.specs.Quota.{folder_of, quota_of, counts}
-use Rattle.fsrm_model.specs.Reached.{has_reached, reached}
-use Rattle.fsrm_model.specs.Runs.{run_actions, run_threshold, run_quota, run_screen, last_entries, ran}
-use Rattle.fsrm_model.specs.Thresholds.{percent_of, actions_at}
-use Rattle.fsrm_model.specs.Tree.{usage}
+use Rattle.fsrm_model.specs.objects.Acts.{has_act, actions_of}
+use Rattle.fsrm_model.specs.values.Limits.{most_entries}
+use Rattle.fsrm_model.specs.objects.Quota.{folder_of, quota_of, counts}
+use Rattle.fsrm_model.specs.objects.Reached.{has_reached, reached}
+use Rattle.fsrm_model.specs.objects.Runs.{run_actions, run_threshold, run_quota, run_screen, last_entries, ran}
+use Rattle.fsrm_model.specs.objects.Thresholds.{percent_of, actions_at}
+use Rattle.fsrm_model.specs.nodes.Tree.{usage}
 use Rattle.fsrm_base.proofs.Look.{find-map, found_key, found_passes}
 use Rattle.fsrm_base.proofs.RowLaws.{map_id}
 use Rattle.fsrm_base.proofs.TestLaws.{eq_is}

@@ -12,13 +12,13 @@ use Rattle.fsrm_model.specs.declared.row.QuotaRow.{QuotaRow}
 use Rattle.fsrm_model.specs.declared.row.Rows.{Rows}
 use Rattle.fsrm_model.specs.declared.row.Threshold.{Threshold}
 use Rattle.fsrm_base.specs.Keyed.{is_ascending}
-use Rattle.fsrm_model.specs.Acts.{has_act}
-use Rattle.fsrm_model.specs.DueActions.{is_ready_at, ready_acts, quota_acts, due}
-use Rattle.fsrm_model.specs.Quota.{quota_of}
-use Rattle.fsrm_model.specs.Raises.{are_ascending}
-use Rattle.fsrm_model.specs.Reached.{crossed}
-use Rattle.fsrm_model.specs.Runs.{run_threshold, run_quota}
-use Rattle.fsrm_model.specs.Thresholds.{percent_of, actions_at}
+use Rattle.fsrm_model.specs.objects.Acts.{has_act}
+use Rattle.fsrm_model.specs.objects.DueActions.{is_ready_at, ready_acts, quota_acts, due}
+use Rattle.fsrm_model.specs.objects.Quota.{quota_of}
+use Rattle.fsrm_model.specs.meaning.Raises.{are_ascending}
+use Rattle.fsrm_model.specs.objects.Reached.{crossed}
+use Rattle.fsrm_model.specs.objects.Runs.{run_threshold, run_quota}
+use Rattle.fsrm_model.specs.objects.Thresholds.{percent_of, actions_at}
 use Rattle.fsrm_base.proofs.RowLaws.{map_same}
 use Rattle.fsrm_base.proofs.TestLaws.{eq_same}
 use Rattle.fsrm_model.proofs.thresholds.DueLaws.{each, quota_run, due_run}

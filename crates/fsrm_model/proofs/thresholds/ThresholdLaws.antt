@@ -10,8 +10,8 @@ use Rattle.fsrm_model.specs.declared.row.Action.{Action}
 use Rattle.fsrm_model.specs.declared.row.Threshold.{Threshold}
 use Rattle.fsrm_base.specs.Keyed.{row_of, has_row, with_row, is_ascending}
 use Rattle.fsrm_base.specs.Numbers.{is_in}
-use Rattle.fsrm_model.specs.Limits.{latest_moment}
-use Rattle.fsrm_model.specs.Thresholds.{percent_of, actions_at, is_percent, is_action, is_new_action, is_kept_action, is_notice, is_threshold, are_too_many, are_thresholds, without_thresholds, with_threshold, with_action, with_notice, actions_given, changed_thresholds}
+use Rattle.fsrm_model.specs.values.Limits.{latest_moment}
+use Rattle.fsrm_model.specs.objects.Thresholds.{percent_of, actions_at, is_percent, is_action, is_new_action, is_kept_action, is_notice, is_threshold, are_too_many, are_thresholds, without_thresholds, with_threshold, with_action, with_notice, actions_given, changed_thresholds}
 use Rattle.fsrm_base.proofs.EditedRows.{find-with_row_same}
 use Rattle.fsrm_base.proofs.EditedTests.{list_all-with_row, list_all-filter, list_all-with_change}
 use Rattle.fsrm_base.proofs.Look.{is_some-find, none_row, found_key, has_found, find-filter, row_of-change, row_of-new_other, has_row-change}

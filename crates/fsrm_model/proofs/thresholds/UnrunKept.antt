@@ -8,8 +8,8 @@ use Rattle.fsrm_model.specs.declared.row.Action.{Action}
 use Rattle.fsrm_model.specs.declared.row.Threshold.{Threshold}
 use Rattle.fsrm_base.specs.Keyed.{has_row, with_row}
 use Rattle.fsrm_base.specs.Numbers.{is_in}
-use Rattle.fsrm_model.specs.Templates.{is_unrun}
-use Rattle.fsrm_model.specs.Thresholds.{percent_of, is_percent, is_action, is_new_action, is_notice, without_thresholds, with_threshold, with_action, with_notice, changed_thresholds}
+use Rattle.fsrm_model.specs.objects.Templates.{is_unrun}
+use Rattle.fsrm_model.specs.objects.Thresholds.{percent_of, is_percent, is_action, is_new_action, is_notice, without_thresholds, with_threshold, with_action, with_notice, changed_thresholds}
 use Rattle.fsrm_base.proofs.EditedTests.{list_all-with_row, list_all-filter, list_all-with_change}
 use Rattle.fsrm_base.proofs.TestLaws.{both, both_true}
 

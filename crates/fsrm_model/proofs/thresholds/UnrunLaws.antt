@@ -11,9 +11,9 @@ use Rattle.fsrm_model.specs.declared.row.Action.{Action}
 use Rattle.fsrm_model.specs.declared.row.QuotaRow.{QuotaRow}
 use Rattle.fsrm_model.specs.declared.row.ScreenRow.{ScreenRow}
 use Rattle.fsrm_model.specs.declared.row.Threshold.{Threshold}
-use Rattle.fsrm_model.specs.Acts.{is_of_quota, same_subject, has_act}
-use Rattle.fsrm_model.specs.DueActions.{due_screen}
-use Rattle.fsrm_model.specs.Runs.{run_actions, run_threshold, run_quota, run_screen}
+use Rattle.fsrm_model.specs.objects.Acts.{is_of_quota, same_subject, has_act}
+use Rattle.fsrm_model.specs.objects.DueActions.{due_screen}
+use Rattle.fsrm_model.specs.objects.Runs.{run_actions, run_threshold, run_quota, run_screen}
 use Rattle.fsrm_model.proofs.thresholds.ActLaws.{IsOfScreen, IsOfQuota, ready_of}
 use Rattle.fsrm_model.proofs.thresholds.DueLaws.{each}
 use Rattle.fsrm_model.proofs.thresholds.RunLaws.{with_run}

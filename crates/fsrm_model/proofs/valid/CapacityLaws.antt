@@ -5,10 +5,10 @@ use Rattle.std.specs.Int.{w32, trailing_zeros}
 use Rattle.std.specs.Int.Count.{count_trailing_zeros}
 use Rattle.std.specs.List.{AllByRecursion}
 use Rattle.fsrm_model.specs.declared.row.Capacity.{Capacity}
-use Rattle.fsrm_model.specs.Capacities.{cluster_sizes, is_cluster, is_capacity}
-use Rattle.fsrm_model.specs.Limits.{longest_file, most_nodes, most_names}
+use Rattle.fsrm_model.specs.store.Capacities.{cluster_sizes, is_cluster, is_capacity}
+use Rattle.fsrm_model.specs.values.Limits.{longest_file, most_nodes, most_names}
 use Rattle.fsrm_base.specs.Numbers.{is_in}
-use Rattle.fsrm_model.specs.Space.{rounded, alloc}
+use Rattle.fsrm_model.specs.values.Space.{rounded, alloc}
 use Rattle.fsrm_base.proofs.TestLaws.{both, le_is, eq_is, is_or}
 
 pub nodes_most : (K : Capacity) → is_capacity K ≡ true → K.nodes ≤ most_nodes

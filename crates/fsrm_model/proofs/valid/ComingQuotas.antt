@@ -11,17 +11,17 @@ use Rattle.fsrm_base.proofs.Look.{found_has, found_key, has_row-new_other, is_so
 use Rattle.fsrm_base.proofs.Members.{all_found, all_pass}
 use Rattle.fsrm_base.proofs.Order.{ascending-filter}
 use Rattle.fsrm_base.proofs.TestLaws.{both, both_true, clash, eq_is, eq_same, is_false, le_test, not_true, or_later}
-use Rattle.fsrm_model.specs.AutoApply.{applied, quotas_with, subfolders, template_for}
+use Rattle.fsrm_model.specs.objects.AutoApply.{applied, quotas_with, subfolders, template_for}
 use Rattle.fsrm_model.specs.declared.row.NodeRow.{NodeRow}
 use Rattle.fsrm_model.specs.declared.row.QuotaRow.{QuotaRow}
 use Rattle.fsrm_model.specs.declared.row.Rows.{Rows}
 use Rattle.fsrm_model.specs.declared.row.TemplateRow.{TemplateRow}
-use Rattle.fsrm_model.specs.Limits.{latest_moment, most_templates}
-use Rattle.fsrm_model.specs.Quota.{folder_of, quota_of}
-use Rattle.fsrm_model.specs.QuotaStates.{start}
-use Rattle.fsrm_model.specs.Templates.{template_number, template_name, template_of, is_template, derived}
-use Rattle.fsrm_model.specs.Tree.{number, parent_of, name_of, is_folder, is_child, children}
-use Rattle.fsrm_model.specs.Valid.{has_source, are_templates}
+use Rattle.fsrm_model.specs.values.Limits.{latest_moment, most_templates}
+use Rattle.fsrm_model.specs.objects.Quota.{folder_of, quota_of}
+use Rattle.fsrm_model.specs.objects.QuotaStates.{start}
+use Rattle.fsrm_model.specs.objects.Templates.{template_number, template_name, template_of, is_template, derived}
+use Rattle.fsrm_model.specs.nodes.Tree.{number, parent_of, name_of, is_folder, is_child, children}
+use Rattle.fsrm_model.specs.store.Valid.{has_source, are_templates}
 use Rattle.fsrm_model.proofs.nodes.Keeps.{found_folder}
 use Rattle.fsrm_model.proofs.valid.NamesApart.{named_parts}
 use Rattle.fsrm_model.proofs.valid.QuotasKept.{IsQuota}

@@ -9,7 +9,7 @@ use Rattle.fsrm_base.proofs.Look.{changed_found, found_has, has_row-new_other}
 use Rattle.fsrm_base.proofs.Members.{all_pass, all_found}
 use Rattle.fsrm_base.proofs.Order.{ascending-with_row, ascending-change, ascending-filter, length-change}
 use Rattle.fsrm_base.proofs.TestLaws.{both, both_true, neither, clash, eq_is, eq_same, is_false, not_true, le_is, le_test}
-use Rattle.fsrm_model.specs.Name.{is_named, names_differ, same_name}
+use Rattle.fsrm_model.specs.values.Name.{is_named, names_differ, same_name}
 use Rattle.fsrm_model.proofs.nodes.Keeps.{same_turned}
 use Rattle.fsrm_model.proofs.valid.QuotasKept.{filter_few}
 

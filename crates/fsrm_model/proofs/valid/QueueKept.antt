@@ -8,10 +8,10 @@ use Rattle.fsrm_model.specs.declared.row.QuotaRow.{QuotaRow}
 use Rattle.fsrm_model.specs.declared.row.QuotaState.{QuotaState}
 use Rattle.fsrm_base.specs.Keyed.{row_of, has_row, with_row, with_change, without_row}
 use Rattle.fsrm_base.specs.Numbers.{itself, is_in, each_once, without_number}
-use Rattle.fsrm_model.specs.Quota.{folder_of, counts, peaked}
-use Rattle.fsrm_model.specs.QuotaStates.{is_rebuilding, queued}
-use Rattle.fsrm_model.specs.Tree.{usage}
-use Rattle.fsrm_model.specs.ValidScans.{IsQueue}
+use Rattle.fsrm_model.specs.objects.Quota.{folder_of, counts, peaked}
+use Rattle.fsrm_model.specs.objects.QuotaStates.{is_rebuilding, queued}
+use Rattle.fsrm_model.specs.nodes.Tree.{usage}
+use Rattle.fsrm_model.specs.store.ValidScans.{IsQueue}
 use Rattle.fsrm_base.proofs.EditedRows.{find-with_row_same}
 use Rattle.fsrm_base.proofs.Look.{is_some-find, found_key, found_has, find-map, row_of-change, has_row-change, changed_found, row_of-new_other, row_of-without, has_row-without, has_row-without_other}
 use Rattle.fsrm_model.proofs.commands.QuotaLaws.{peaked_folder}

@@ -8,12 +8,12 @@ use Rattle.fsrm_model.specs.declared.row.Capacity.{Capacity}
 use Rattle.fsrm_model.specs.declared.row.NodeRow.{NodeRow}
 use Rattle.fsrm_model.specs.declared.row.QuotaRow.{QuotaRow}
 use Rattle.fsrm_base.specs.Keyed.{row_of, has_row, is_ascending, with_row, with_change, without_row}
-use Rattle.fsrm_model.specs.Limits.{latest_moment, most_quotas}
-use Rattle.fsrm_model.specs.Quota.{folder_of, is_limit, counts, peaked}
-use Rattle.fsrm_model.specs.Thresholds.{are_thresholds}
-use Rattle.fsrm_model.specs.Tree.{is_folder, usage}
-use Rattle.fsrm_model.specs.Runs.{run_quota}
-use Rattle.fsrm_model.specs.Valid.{is_moment, AreQuotas}
+use Rattle.fsrm_model.specs.values.Limits.{latest_moment, most_quotas}
+use Rattle.fsrm_model.specs.objects.Quota.{folder_of, is_limit, counts, peaked}
+use Rattle.fsrm_model.specs.objects.Thresholds.{are_thresholds}
+use Rattle.fsrm_model.specs.nodes.Tree.{is_folder, usage}
+use Rattle.fsrm_model.specs.objects.Runs.{run_quota}
+use Rattle.fsrm_model.specs.store.Valid.{is_moment, AreQuotas}
 use Rattle.fsrm_base.proofs.Look.{new_found, changed_found, row_of-without, has_row-without, found_has, find-map}
 use Rattle.fsrm_base.proofs.Order.{ascending-with_row, ascending-change, ascending-filter, ascending-map, length-with_row, length-change}
 use Rattle.fsrm_model.proofs.commands.QuotaLaws.{peaked_folder}

@@ -16,20 +16,20 @@ use Rattle.fsrm_model.specs.declared.row.Rows.{Rows}
 use Rattle.fsrm_model.specs.declared.row.ScreenRow.{ScreenRow}
 use Rattle.fsrm_model.specs.declared.row.TemplateRow.{TemplateRow}
 use Rattle.fsrm_base.specs.Keyed.{has_row}
-use Rattle.fsrm_model.specs.Audits.{audit_of, with_audit, audited}
-use Rattle.fsrm_model.specs.Limits.{latest_moment, most_entries, most_minutes, most_text_bytes}
-use Rattle.fsrm_model.specs.Name.{is_name}
+use Rattle.fsrm_model.specs.objects.Audits.{audit_of, with_audit, audited}
+use Rattle.fsrm_model.specs.values.Limits.{latest_moment, most_entries, most_minutes, most_text_bytes}
+use Rattle.fsrm_model.specs.values.Name.{is_name}
 use Rattle.fsrm_base.specs.Numbers.{is_in}
-use Rattle.fsrm_model.specs.Quota.{folder_of, counts, peaked, peaks}
-use Rattle.fsrm_model.specs.QuotaStates.{head, same_head, scan_begun, followed}
-use Rattle.fsrm_model.specs.Runs.{run_quota, run_screen, last_entries, ran}
-use Rattle.fsrm_model.specs.Scan.{AreUnvisited, folders_under, visits}
-use Rattle.fsrm_model.specs.Screens.{screen_folder}
-use Rattle.fsrm_model.specs.Texts.{action_bytes, quota_bytes, object_texts}
-use Rattle.fsrm_model.specs.Tree.{is_folder, usage}
-use Rattle.fsrm_model.specs.Valid.{is_moment, has_source, is_audit, are_audits, are_groups, are_screens, are_excepts, are_templates, are_autos, IsVolume, AreQuotas, AreTables, IsValid}
-use Rattle.fsrm_model.specs.ValidScans.{IsQueue, AreLeft}
-use Rattle.fsrm_model.specs.Work.{Judged}
+use Rattle.fsrm_model.specs.objects.Quota.{folder_of, counts, peaked, peaks}
+use Rattle.fsrm_model.specs.objects.QuotaStates.{head, same_head, scan_begun, followed}
+use Rattle.fsrm_model.specs.objects.Runs.{run_quota, run_screen, last_entries, ran}
+use Rattle.fsrm_model.specs.objects.Scan.{AreUnvisited, folders_under, visits}
+use Rattle.fsrm_model.specs.objects.Screens.{screen_folder}
+use Rattle.fsrm_model.specs.values.Texts.{action_bytes, quota_bytes, object_texts}
+use Rattle.fsrm_model.specs.nodes.Tree.{is_folder, usage}
+use Rattle.fsrm_model.specs.store.Valid.{is_moment, has_source, is_audit, are_audits, are_groups, are_screens, are_excepts, are_templates, are_autos, IsVolume, AreQuotas, AreTables, IsValid}
+use Rattle.fsrm_model.specs.store.ValidScans.{IsQueue, AreLeft}
+use Rattle.fsrm_model.specs.commands.Work.{Judged}
 use Rattle.fsrm_base.proofs.Look.{has_found, found_key}
 use Rattle.fsrm_model.proofs.valid.QueueKept.{queue_peaked, queue_mapped}
 use Rattle.fsrm_model.proofs.valid.QuotasKept.{quotas-peaked, quotas-ran}

@@ -11,7 +11,7 @@ use Rattle.fsrm_base.proofs.Look.{has_row-without_other}
 use Rattle.fsrm_base.proofs.Members.{all_found}
 use Rattle.fsrm_base.proofs.Order.{ascending-with_row, ascending-change, ascending-filter, ascending-map, length-change}
 use Rattle.fsrm_base.proofs.TestLaws.{both, both_true, is_false, neither, le_is, le_test}
-use Rattle.fsrm_model.specs.Acts.{has_act}
+use Rattle.fsrm_model.specs.objects.Acts.{has_act}
 use Rattle.fsrm_model.specs.declared.command.Act.{Act}
 use Rattle.fsrm_model.specs.declared.command.Subject.TheVariants.{Screen}
 use Rattle.fsrm_model.specs.declared.row.Action.{Action}
@@ -19,13 +19,13 @@ use Rattle.fsrm_model.specs.declared.row.ExceptRow.{ExceptRow}
 use Rattle.fsrm_model.specs.declared.row.GroupRow.{GroupRow}
 use Rattle.fsrm_model.specs.declared.row.NodeRow.{NodeRow}
 use Rattle.fsrm_model.specs.declared.row.ScreenRow.{ScreenRow}
-use Rattle.fsrm_model.specs.Limits.{latest_moment, most_actions, most_excepts, most_screen_groups, most_screens}
-use Rattle.fsrm_model.specs.Patterns.{group_number}
-use Rattle.fsrm_model.specs.Runs.{run_actions, run_screen}
-use Rattle.fsrm_model.specs.Screens.{screen_folder, except_folder}
-use Rattle.fsrm_model.specs.Thresholds.{is_kept_action}
-use Rattle.fsrm_model.specs.Tree.{is_folder}
-use Rattle.fsrm_model.specs.Valid.{are_group_numbers, are_screen_actions, is_sound_screen, are_screens, is_sound_except, are_excepts}
+use Rattle.fsrm_model.specs.values.Limits.{latest_moment, most_actions, most_excepts, most_screen_groups, most_screens}
+use Rattle.fsrm_model.specs.values.Patterns.{group_number}
+use Rattle.fsrm_model.specs.objects.Runs.{run_actions, run_screen}
+use Rattle.fsrm_model.specs.objects.Screens.{screen_folder, except_folder}
+use Rattle.fsrm_model.specs.objects.Thresholds.{is_kept_action}
+use Rattle.fsrm_model.specs.nodes.Tree.{is_folder}
+use Rattle.fsrm_model.specs.store.Valid.{are_group_numbers, are_screen_actions, is_sound_screen, are_screens, is_sound_except, are_excepts}
 use Rattle.fsrm_model.proofs.thresholds.KeptLaws.{all_from}
 use Rattle.fsrm_model.proofs.valid.QuotasKept.{filter_few}
 

@@ -8,20 +8,20 @@ use Rattle.fsrm_base.proofs.EditedTests.{list_all-filter, list_all-with_change, 
 use Rattle.fsrm_base.proofs.Look.{has_row-without_other}
 use Rattle.fsrm_base.proofs.Order.{length-with_row}
 use Rattle.fsrm_base.proofs.TestLaws.{both, both_true}
-use Rattle.fsrm_model.specs.AutoApply.{auto_folder, is_auto, quotas_with, queue_with}
+use Rattle.fsrm_model.specs.objects.AutoApply.{auto_folder, is_auto, quotas_with, queue_with}
 use Rattle.fsrm_model.specs.declared.command.Update.{Update}
 use Rattle.fsrm_model.specs.declared.row.AutoRow.{AutoRow}
 use Rattle.fsrm_model.specs.declared.row.NodeRow.{NodeRow}
 use Rattle.fsrm_model.specs.declared.row.QuotaRow.{QuotaRow}
 use Rattle.fsrm_model.specs.declared.row.TemplateRow.{TemplateRow}
-use Rattle.fsrm_model.specs.Limits.{most_autos, most_quotas, most_templates}
-use Rattle.fsrm_model.specs.Patterns.{is_object_name}
-use Rattle.fsrm_model.specs.Quota.{folder_of, is_limit}
-use Rattle.fsrm_model.specs.Templates.{template_number, is_unrun, is_template, is_derived, without_source, is_reached, as_template, updated}
-use Rattle.fsrm_model.specs.Thresholds.{are_thresholds}
-use Rattle.fsrm_model.specs.Tree.{is_folder}
-use Rattle.fsrm_model.specs.Valid.{has_source, is_sound_auto, are_autos, AreQuotas}
-use Rattle.fsrm_model.specs.ValidScans.{IsQueue}
+use Rattle.fsrm_model.specs.values.Limits.{most_autos, most_quotas, most_templates}
+use Rattle.fsrm_model.specs.values.Patterns.{is_object_name}
+use Rattle.fsrm_model.specs.objects.Quota.{folder_of, is_limit}
+use Rattle.fsrm_model.specs.objects.Templates.{template_number, is_unrun, is_template, is_derived, without_source, is_reached, as_template, updated}
+use Rattle.fsrm_model.specs.objects.Thresholds.{are_thresholds}
+use Rattle.fsrm_model.specs.nodes.Tree.{is_folder}
+use Rattle.fsrm_model.specs.store.Valid.{has_source, is_sound_auto, are_autos, AreQuotas}
+use Rattle.fsrm_model.specs.store.ValidScans.{IsQueue}
 use Rattle.fsrm_model.proofs.valid.QueueKept.{queue_added}
 use Rattle.fsrm_model.proofs.valid.QuotasKept.{IsQuota, quotas-new}
 use Rattle.fsrm_model.proofs.valid.ScreensKept.{FoldersStay, all_map, all_weaker, table-new, table-without, table_apart, table_stays}

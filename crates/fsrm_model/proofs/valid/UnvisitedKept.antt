@@ -6,9 +6,9 @@ use Rattle.fsrm_model.specs.declared.row.Capacity.{Capacity}
 use Rattle.fsrm_model.specs.declared.row.NodeRow.{NodeRow}
 use Rattle.fsrm_base.specs.Keyed.{has_row, with_row, with_change, without_row}
 use Rattle.fsrm_base.specs.Numbers.{is_in, is_set, with_number, without_number, with_numbers, without_numbers}
-use Rattle.fsrm_model.specs.Scan.{AreUnvisited, folders_under, is_topmost, next_visit, visit, visits, unvisited_with, unvisited_moved}
-use Rattle.fsrm_model.specs.Tree.{number, node_of, parent_of, is_folder, chain, is_under}
-use Rattle.fsrm_model.specs.Valid.{IsVolume}
+use Rattle.fsrm_model.specs.objects.Scan.{AreUnvisited, folders_under, is_topmost, next_visit, visit, visits, unvisited_with, unvisited_moved}
+use Rattle.fsrm_model.specs.nodes.Tree.{number, node_of, parent_of, is_folder, chain, is_under}
+use Rattle.fsrm_model.specs.store.Valid.{IsVolume}
 use Rattle.fsrm_model.proofs.nodes.Below.{above_all, below_moved}
 use Rattle.fsrm_model.proofs.nodes.ChainLaws.{IsTree, Has, chain-new, chain-new_other, parent_of-new_same}
 use Rattle.fsrm_base.proofs.EditedRows.{find-with_row_same}

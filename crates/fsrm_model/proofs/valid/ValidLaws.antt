@@ -6,8 +6,8 @@ use Rattle.std.specs.List.{list_any, list_all}
 use Rattle.fsrm_model.specs.declared.row.Capacity.{Capacity}
 use Rattle.fsrm_model.specs.declared.row.NodeRow.{NodeRow}
 use Rattle.fsrm_base.specs.Keyed.{is_ascending, has_row, row_of}
-use Rattle.fsrm_model.specs.Tree.{number, node_of, parent_of, is_folder, chain}
-use Rattle.fsrm_model.specs.Valid.{is_tree, is_sound_node, is_root_node, is_inner_node, is_only_one}
+use Rattle.fsrm_model.specs.nodes.Tree.{number, node_of, parent_of, is_folder, chain}
+use Rattle.fsrm_model.specs.store.Valid.{is_tree, is_sound_node, is_root_node, is_inner_node, is_only_one}
 use Rattle.fsrm_base.proofs.TestLaws.{eq_is}
 use Rattle.fsrm_base.specs.Numbers.{is_in}
 use Rattle.fsrm_model.proofs.nodes.ChainLaws.{IsTree, Has}

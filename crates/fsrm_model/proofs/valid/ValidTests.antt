@@ -6,18 +6,18 @@ use Rattle.fsrm_model.specs.declared.row.Capacity.{Capacity}
 use Rattle.fsrm_model.specs.declared.row.NodeRow.{NodeRow}
 use Rattle.fsrm_model.specs.declared.row.QuotaRow.{QuotaRow}
 use Rattle.fsrm_model.specs.declared.row.Rows.{Rows}
-use Rattle.fsrm_model.specs.Fresh.{new_rows}
+use Rattle.fsrm_model.specs.nodes.Fresh.{new_rows}
 use Rattle.fsrm_base.specs.Keyed.{row_of, has_row, is_ascending}
-use Rattle.fsrm_model.specs.Limits.{most_minutes, most_quotas, most_text_bytes}
+use Rattle.fsrm_model.specs.values.Limits.{most_minutes, most_quotas, most_text_bytes}
 use Rattle.fsrm_base.specs.Numbers.{is_in, is_set, each_once}
-use Rattle.fsrm_model.specs.Quota.{folder_of, is_limit}
-use Rattle.fsrm_model.specs.QuotaStates.{is_rebuilding, head}
-use Rattle.fsrm_model.specs.Scan.{are_unvisited, AreUnvisited}
-use Rattle.fsrm_model.specs.Texts.{object_texts}
-use Rattle.fsrm_model.specs.Thresholds.{are_thresholds}
-use Rattle.fsrm_model.specs.Tree.{number, is_folder, is_under}
-use Rattle.fsrm_model.specs.Valid.{is_moment, is_tree, is_empty, has_source, is_sound_quota, are_quotas, AreQuotas, are_templates, are_autos, are_groups, are_screens, are_excepts, are_audits, are_tables, AreTables, are_entries, is_valid, IsValid}
-use Rattle.fsrm_model.specs.ValidScans.{is_waiting, is_queue, IsQueue, are_left, AreLeft}
+use Rattle.fsrm_model.specs.objects.Quota.{folder_of, is_limit}
+use Rattle.fsrm_model.specs.objects.QuotaStates.{is_rebuilding, head}
+use Rattle.fsrm_model.specs.objects.Scan.{are_unvisited, AreUnvisited}
+use Rattle.fsrm_model.specs.values.Texts.{object_texts}
+use Rattle.fsrm_model.specs.objects.Thresholds.{are_thresholds}
+use Rattle.fsrm_model.specs.nodes.Tree.{number, is_folder, is_under}
+use Rattle.fsrm_model.specs.store.Valid.{is_moment, is_tree, is_empty, has_source, is_sound_quota, are_quotas, AreQuotas, are_templates, are_autos, are_groups, are_screens, are_excepts, are_audits, are_tables, AreTables, are_entries, is_valid, IsValid}
+use Rattle.fsrm_model.specs.store.ValidScans.{is_waiting, is_queue, IsQueue, are_left, AreLeft}
 use Rattle.fsrm_model.proofs.nodes.Keeps.{folder_found, found_folder}
 use Rattle.fsrm_base.proofs.Look.{found_key, found_has, has_found}
 use Rattle.fsrm_base.proofs.Members.{all_pass, all_found}

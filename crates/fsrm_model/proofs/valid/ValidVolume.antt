@@ -4,9 +4,9 @@ use Rattle.std.specs.List.{list_all}
 use Rattle.fsrm_model.specs.declared.row.Capacity.{Capacity}
 use Rattle.fsrm_model.specs.declared.row.NodeRow.{NodeRow}
 use Rattle.fsrm_base.specs.Keyed.{is_ascending, has_row}
-use Rattle.fsrm_model.specs.Name.{same_name}
-use Rattle.fsrm_model.specs.Tree.{number, node_of, is_folder, is_child, is_under, name_bytes}
-use Rattle.fsrm_model.specs.Valid.{is_tree, is_sound_node, is_root_node, is_inner_node, is_only_one, is_own, IsVolume}
+use Rattle.fsrm_model.specs.values.Name.{same_name}
+use Rattle.fsrm_model.specs.nodes.Tree.{number, node_of, is_folder, is_child, is_under, name_bytes}
+use Rattle.fsrm_model.specs.store.Valid.{is_tree, is_sound_node, is_root_node, is_inner_node, is_only_one, is_own, IsVolume}
 use Rattle.fsrm_base.proofs.TestLaws.{is_or_not, is_false, both, both_true, eq_is, eq_same, le_is, le_test}
 use Rattle.fsrm_model.proofs.valid.ValidLaws.{valid_tree}
 use Rattle.fsrm_base.proofs.Look.{has_found, found_has, found_key}

@@ -4,10 +4,10 @@ use Rattle.std.specs.Prelude.{sum_by, if◌then◌else◌}
 use Rattle.fsrm_model.specs.declared.row.Capacity.{Capacity}
 use Rattle.fsrm_model.specs.declared.row.NodeRow.{NodeRow}
 use Rattle.fsrm_base.specs.Numbers.{is_in}
-use Rattle.fsrm_model.specs.Scan.{counted}
-use Rattle.fsrm_model.specs.Space.{space}
-use Rattle.fsrm_model.specs.Tree.{number, is_folder, is_under}
-use Rattle.fsrm_model.specs.Valid.{IsVolume}
+use Rattle.fsrm_model.specs.objects.Scan.{counted}
+use Rattle.fsrm_model.specs.values.Space.{space}
+use Rattle.fsrm_model.specs.nodes.Tree.{number, is_folder, is_under}
+use Rattle.fsrm_model.specs.store.Valid.{IsVolume}
 use Rattle.fsrm_base.proofs.EditedRows.{sum_by-filter, sum_by_same}
 use Rattle.rescan.specs.Frontiers.{Front, scanned, has_above, unvisited}
 use Rattle.rescan.proofs.unvisited.Tops.{in_unvisited}

@@ -6,13 +6,13 @@ use Rattle.std.specs.Prelude.{sum_by, nat_le}
 use Rattle.std.specs.List.{AllByRecursion}
 use Rattle.fsrm_model.specs.declared.row.Capacity.{Capacity}
 use Rattle.fsrm_model.specs.declared.row.NodeRow.{NodeRow}
-use Rattle.fsrm_model.specs.Capacities.{is_capacity}
+use Rattle.fsrm_model.specs.store.Capacities.{is_capacity}
 use Rattle.fsrm_base.specs.Keyed.{is_ascending}
-use Rattle.fsrm_model.specs.Limits.{longest_file}
-use Rattle.fsrm_model.specs.Scan.{counted}
-use Rattle.fsrm_model.specs.Space.{alloc, space}
-use Rattle.fsrm_model.specs.Tree.{number, node_of, is_under, usage}
-use Rattle.fsrm_model.specs.Valid.{IsVolume}
+use Rattle.fsrm_model.specs.values.Limits.{longest_file}
+use Rattle.fsrm_model.specs.objects.Scan.{counted}
+use Rattle.fsrm_model.specs.values.Space.{alloc, space}
+use Rattle.fsrm_model.specs.nodes.Tree.{number, node_of, is_under, usage}
+use Rattle.fsrm_model.specs.store.Valid.{IsVolume}
 use Rattle.fsrm_model.proofs.nodes.ChainLaws.{share, usage_is}
 use Rattle.fsrm_model.proofs.valid.CapacityLaws.{nodes_most, alloc_most}
 use Rattle.fsrm_base.proofs.Order.{parts}

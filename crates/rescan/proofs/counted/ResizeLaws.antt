@@ -3,13 +3,13 @@ use Rattle.std.proofs.Common.{◌≡◌, ℕ, ◌+◌, ◌-◌, ◌^◌, ◌<◌
 use Rattle.std.specs.Prelude.{if◌then◌else◌}
 use Rattle.fsrm_model.specs.declared.row.Capacity.{Capacity}
 use Rattle.fsrm_model.specs.declared.row.NodeRow.{NodeRow}
-use Rattle.fsrm_model.specs.Capacities.{is_capacity}
+use Rattle.fsrm_model.specs.store.Capacities.{is_capacity}
 use Rattle.fsrm_base.specs.Keyed.{has_row, with_change}
-use Rattle.fsrm_model.specs.Limits.{longest_file}
-use Rattle.fsrm_model.specs.Scan.{counted}
-use Rattle.fsrm_model.specs.Space.{alloc}
-use Rattle.fsrm_model.specs.Tree.{number, node_of, is_folder, chain, is_under}
-use Rattle.fsrm_model.specs.Valid.{IsVolume}
+use Rattle.fsrm_model.specs.values.Limits.{longest_file}
+use Rattle.fsrm_model.specs.objects.Scan.{counted}
+use Rattle.fsrm_model.specs.values.Space.{alloc}
+use Rattle.fsrm_model.specs.nodes.Tree.{number, node_of, is_folder, chain, is_under}
+use Rattle.fsrm_model.specs.store.Valid.{IsVolume}
 use Rattle.fsrm_base.proofs.TestLaws.{clash, eq_same, not_true}
 use Rattle.fsrm_model.proofs.valid.ValidLaws.{folder_has, found_parent}
 use Rattle.fsrm_model.proofs.nodes.ChainLaws.{IsTree}

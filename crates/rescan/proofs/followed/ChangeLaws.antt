@@ -6,15 +6,15 @@ use Rattle.std.specs.Prelude.{map, nat_le, option_map, if◌then◌else◌}
 use Rattle.std.specs.List.{AllByRecursion}
 use Rattle.fsrm_model.specs.declared.row.Capacity.{Capacity}
 use Rattle.fsrm_model.specs.declared.row.NodeRow.{NodeRow}
-use Rattle.fsrm_model.specs.FileOps.{touched}
+use Rattle.fsrm_model.specs.nodes.FileOps.{touched}
 use Rattle.fsrm_base.specs.Keyed.{has_row, is_ascending, with_row, with_change, without_row}
-use Rattle.fsrm_model.specs.Limits.{longest_file}
-use Rattle.fsrm_model.specs.Name.{is_name}
+use Rattle.fsrm_model.specs.values.Limits.{longest_file}
+use Rattle.fsrm_model.specs.values.Name.{is_name}
 use Rattle.fsrm_base.specs.Numbers.{without_number}
-use Rattle.fsrm_model.specs.Scan.{counted, unvisited_with}
-use Rattle.fsrm_model.specs.Space.{alloc}
-use Rattle.fsrm_model.specs.Tree.{number, node_of}
-use Rattle.fsrm_model.specs.Valid.{IsVolume, is_moment, is_own, is_root_node}
+use Rattle.fsrm_model.specs.objects.Scan.{counted, unvisited_with}
+use Rattle.fsrm_model.specs.values.Space.{alloc}
+use Rattle.fsrm_model.specs.nodes.Tree.{number, node_of}
+use Rattle.fsrm_model.specs.store.Valid.{IsVolume, is_moment, is_own, is_root_node}
 use Rattle.fsrm_model.proofs.valid.CapacityLaws.{rounded_none}
 use Rattle.fsrm_base.proofs.TestLaws.{is_or_not, both, both_true, clash, eq_is, eq_same, neither, not_true}
 use Rattle.fsrm_model.proofs.nodes.Keeps.{volume-change}

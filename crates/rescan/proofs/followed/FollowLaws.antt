@@ -1,12 +1,12 @@
 -- A scan goes on over whole operations: what the tree does and what the frontier is told, together.
 use Rattle.std.proofs.Common.{◌≡◌, ℕ, true, false, List, sym, ◌∙◌, ap, subst, refl, Some, ◌==◌}
 use Rattle.fsrm_model.specs.declared.row.NodeRow.{NodeRow}
-use Rattle.fsrm_model.specs.FileOps.{resized}
+use Rattle.fsrm_model.specs.nodes.FileOps.{resized}
 use Rattle.fsrm_base.specs.Keyed.{has_row, with_change}
 use Rattle.fsrm_base.specs.Numbers.{without_number}
-use Rattle.fsrm_model.specs.Scan.{unvisited_with}
-use Rattle.fsrm_model.specs.Tree.{number, node_of}
-use Rattle.fsrm_model.specs.Valid.{IsVolume}
+use Rattle.fsrm_model.specs.objects.Scan.{unvisited_with}
+use Rattle.fsrm_model.specs.nodes.Tree.{number, node_of}
+use Rattle.fsrm_model.specs.store.Valid.{IsVolume}
 use Rattle.fsrm_base.proofs.TestLaws.{eq_same}
 use Rattle.fsrm_base.proofs.EditedRows.{find-with_row_same}
 use Rattle.fsrm_base.proofs.Order.{ascending-with_row}

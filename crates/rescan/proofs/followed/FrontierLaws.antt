@@ -6,10 +6,10 @@ use Rattle.std.specs.List.{list_any}
 use Rattle.fsrm_model.specs.declared.row.Capacity.{Capacity}
 use Rattle.fsrm_model.specs.declared.row.NodeRow.{NodeRow}
 use Rattle.fsrm_base.specs.Numbers.{is_in}
-use Rattle.fsrm_model.specs.Scan.{is_topmost, folders_under, counted}
-use Rattle.fsrm_model.specs.Space.{alloc, space}
-use Rattle.fsrm_model.specs.Tree.{number, node_of, parent_of, is_folder, chain, is_under, usage}
-use Rattle.fsrm_model.specs.Valid.{IsVolume}
+use Rattle.fsrm_model.specs.objects.Scan.{is_topmost, folders_under, counted}
+use Rattle.fsrm_model.specs.values.Space.{alloc, space}
+use Rattle.fsrm_model.specs.nodes.Tree.{number, node_of, parent_of, is_folder, chain, is_under, usage}
+use Rattle.fsrm_model.specs.store.Valid.{IsVolume}
 use Rattle.fsrm_base.proofs.TestLaws.{both, clash, eq_is, eq_same, suc_apart}
 use Rattle.fsrm_model.proofs.nodes.ChainLaws.{share, usage_is}
 use Rattle.fsrm_base.proofs.EditedRows.{sum_by_same}

@@ -6,10 +6,10 @@ use Rattle.fsrm_model.specs.declared.row.Capacity.{Capacity}
 use Rattle.fsrm_model.specs.declared.row.NodeRow.{NodeRow}
 use Rattle.fsrm_base.specs.Keyed.{without_row}
 use Rattle.fsrm_base.specs.Numbers.{is_in, without_number}
-use Rattle.fsrm_model.specs.Scan.{counted, unvisited_with}
-use Rattle.fsrm_model.specs.Space.{space}
-use Rattle.fsrm_model.specs.Tree.{number, node_of, parent_of, is_folder, is_child, chain, is_under}
-use Rattle.fsrm_model.specs.Valid.{IsVolume}
+use Rattle.fsrm_model.specs.objects.Scan.{counted, unvisited_with}
+use Rattle.fsrm_model.specs.values.Space.{space}
+use Rattle.fsrm_model.specs.nodes.Tree.{number, node_of, parent_of, is_folder, is_child, chain, is_under}
+use Rattle.fsrm_model.specs.store.Valid.{IsVolume}
 use Rattle.fsrm_base.proofs.TestLaws.{is_or_not, clash, not_true, neither, eq_is, eq_turned, not_zero}
 use Rattle.fsrm_model.proofs.valid.ValidLaws.{folder_has, found_parent}
 use Rattle.fsrm_model.proofs.nodes.ChainLaws.{Has, chain_lacks}

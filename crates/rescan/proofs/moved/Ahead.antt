@@ -6,8 +6,8 @@ use Rattle.std.specs.List.{AllByRecursion}
 use Rattle.fsrm_model.specs.declared.row.Capacity.{Capacity}
 use Rattle.fsrm_model.specs.declared.row.NodeRow.{NodeRow}
 use Rattle.fsrm_base.specs.Numbers.{is_in, without_number}
-use Rattle.fsrm_model.specs.Tree.{number, node_of, is_child, children, is_under, under}
-use Rattle.fsrm_model.specs.Valid.{IsVolume}
+use Rattle.fsrm_model.specs.nodes.Tree.{number, node_of, is_child, children, is_under, under}
+use Rattle.fsrm_model.specs.store.Valid.{IsVolume}
 use Rattle.fsrm_base.proofs.TestLaws.{clash, or_later, eq_is, eq_same}
 use Rattle.fsrm_model.proofs.nodes.ChainLaws.{Has}
 use Rattle.fsrm_base.proofs.EditedRows.{sum_by-filter}

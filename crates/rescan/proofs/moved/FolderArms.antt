@@ -3,9 +3,9 @@ use Rattle.std.proofs.Common.{◌≡◌, ℕ, ◌==◌, Bool, true, false, cond,
 use Rattle.std.specs.Prelude.{unwrap_or}
 use Rattle.fsrm_model.specs.declared.row.NodeRow.{NodeRow}
 use Rattle.fsrm_base.specs.Numbers.{is_in, with_number, without_number}
-use Rattle.fsrm_model.specs.Scan.{unvisited_moved}
-use Rattle.fsrm_model.specs.Tree.{is_folder, is_under}
-use Rattle.fsrm_model.specs.Valid.{IsVolume}
+use Rattle.fsrm_model.specs.objects.Scan.{unvisited_moved}
+use Rattle.fsrm_model.specs.nodes.Tree.{is_folder, is_under}
+use Rattle.fsrm_model.specs.store.Valid.{IsVolume}
 use Rattle.fsrm_base.proofs.TestLaws.{is_or_not, clash, not_true, both_true, eq_is, eq_same}
 use Rattle.fsrm_model.proofs.nodes.Below.{each_above}
 use Rattle.fsrm_model.proofs.nodes.ChainLaws.{IsTree, Has}

@@ -4,11 +4,11 @@ use Rattle.std.specs.Prelude.{sum_by, if◌then◌else◌}
 use Rattle.std.specs.List.{AllByRecursion}
 use Rattle.fsrm_model.specs.declared.row.Capacity.{Capacity}
 use Rattle.fsrm_model.specs.declared.row.NodeRow.{NodeRow}
-use Rattle.fsrm_model.specs.FileOps.{placed}
+use Rattle.fsrm_model.specs.nodes.FileOps.{placed}
 use Rattle.fsrm_base.specs.Keyed.{with_change}
-use Rattle.fsrm_model.specs.Space.{alloc, space}
-use Rattle.fsrm_model.specs.Tree.{number, node_of, is_folder, is_under}
-use Rattle.fsrm_model.specs.Valid.{IsVolume, is_root_node}
+use Rattle.fsrm_model.specs.values.Space.{alloc, space}
+use Rattle.fsrm_model.specs.nodes.Tree.{number, node_of, is_folder, is_under}
+use Rattle.fsrm_model.specs.store.Valid.{IsVolume, is_root_node}
 use Rattle.fsrm_base.proofs.TestLaws.{is_or_not, clash, not_true, both, both_true, eq_is, eq_same}
 use Rattle.fsrm_model.proofs.nodes.ChainLaws.{IsTree, Has}
 use Rattle.fsrm_base.proofs.EditedRows.{sum_by-filter, sum_by_same}

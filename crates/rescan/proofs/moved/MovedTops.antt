@@ -3,7 +3,7 @@ use Rattle.std.proofs.Common.{◌≡◌, ℕ, ◌==◌, Bool, true, false, cond,
 use Rattle.std.specs.Prelude.{is_some, unwrap_or, if◌then◌else◌}
 use Rattle.fsrm_model.specs.declared.row.NodeRow.{NodeRow}
 use Rattle.fsrm_base.specs.Numbers.{is_in, is_set}
-use Rattle.fsrm_model.specs.Tree.{is_folder, is_under, chain}
+use Rattle.fsrm_model.specs.nodes.Tree.{is_folder, is_under, chain}
 use Rattle.fsrm_base.proofs.TestLaws.{is_or_not, clash, not_true, both, both_true, is_or, or_later, eq_is, eq_same, same_tests}
 use Rattle.fsrm_model.proofs.nodes.ChainLaws.{IsTree, Has}
 use Rattle.fsrm_model.proofs.nodes.Below.{below_moved}

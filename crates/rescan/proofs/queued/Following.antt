@@ -4,10 +4,10 @@ use Rattle.std.specs.Prelude.{is_some, unwrap_or}
 use Rattle.std.specs.Option.{option_map_or}
 use Rattle.fsrm_model.specs.declared.row.NodeRow.{NodeRow}
 use Rattle.fsrm_base.specs.Numbers.{is_in, with_number, without_number}
-use Rattle.fsrm_model.specs.QuotaStates.{head}
-use Rattle.fsrm_model.specs.Scan.{unvisited_with}
-use Rattle.fsrm_model.specs.Tree.{node_of, is_folder}
-use Rattle.fsrm_model.specs.Valid.{IsVolume}
+use Rattle.fsrm_model.specs.objects.QuotaStates.{head}
+use Rattle.fsrm_model.specs.objects.Scan.{unvisited_with}
+use Rattle.fsrm_model.specs.nodes.Tree.{node_of, is_folder}
+use Rattle.fsrm_model.specs.store.Valid.{IsVolume}
 use Rattle.fsrm_base.proofs.Look.{none_row, some_row}
 use Rattle.volume_tree.specs.Volume.{Volume}
 use Rattle.rescan.specs.Frontiers.{Room, Front, Stands, Suits, Follows, scanned, unvisited, sized}

@@ -5,8 +5,8 @@ use Rattle.std.specs.Option.{option_map_or}
 use Rattle.fsrm_model.specs.declared.row.Capacity.{Capacity}
 use Rattle.fsrm_model.specs.declared.row.NodeRow.{NodeRow}
 use Rattle.fsrm_base.specs.Keyed.{has_row, without_row}
-use Rattle.fsrm_model.specs.Tree.{number, is_folder, is_child, children}
-use Rattle.fsrm_model.specs.Valid.{IsVolume}
+use Rattle.fsrm_model.specs.nodes.Tree.{number, is_folder, is_child, children}
+use Rattle.fsrm_model.specs.store.Valid.{IsVolume}
 use Rattle.fsrm_model.proofs.nodes.Keeps.{volume-removed}
 use Rattle.fsrm_base.proofs.Look.{has_found, has_row-without, row_of-without}
 use Rattle.fsrm_base.proofs.Members.{none_passes, filter_none}

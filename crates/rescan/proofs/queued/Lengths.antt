@@ -4,11 +4,11 @@ use Rattle.std.proofs.lemmas.Bool.Decides.{nat_tests}
 use Rattle.std.specs.Prelude.{nat_le}
 use Rattle.fsrm_model.specs.declared.row.Capacity.{Capacity}
 use Rattle.fsrm_model.specs.declared.row.NodeRow.{NodeRow}
-use Rattle.fsrm_model.specs.FileOps.{resized}
+use Rattle.fsrm_model.specs.nodes.FileOps.{resized}
 use Rattle.fsrm_base.specs.Keyed.{has_row, is_ascending, with_change}
-use Rattle.fsrm_model.specs.Limits.{longest_file}
-use Rattle.fsrm_model.specs.Tree.{number, node_of}
-use Rattle.fsrm_model.specs.Valid.{IsVolume}
+use Rattle.fsrm_model.specs.values.Limits.{longest_file}
+use Rattle.fsrm_model.specs.nodes.Tree.{number, node_of}
+use Rattle.fsrm_model.specs.store.Valid.{IsVolume}
 use Rattle.fsrm_base.proofs.EditedRows.{absent_later, ascending_tail}
 use Rattle.fsrm_base.proofs.Look.{found_has}
 use Rattle.fsrm_base.proofs.TestLaws.{is_or_not, clash, eq_is}

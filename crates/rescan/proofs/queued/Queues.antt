@@ -5,7 +5,7 @@ use Rattle.std.specs.Prelude.{is_some}
 use Rattle.std.specs.List.{remove}
 use Rattle.std.specs.Option.{option_eq}
 use Rattle.fsrm_base.specs.Numbers.{is_in, each_once, without_number}
-use Rattle.fsrm_model.specs.QuotaStates.{head, same_head}
+use Rattle.fsrm_model.specs.objects.QuotaStates.{head, same_head}
 use Rattle.fsrm_base.proofs.TestLaws.{is_or_not, clash, both, both_true, is_or, is_false, eq_is, eq_same, eq_turned, neither, or_later}
 
 -- who waits in a queue with one more, and without one

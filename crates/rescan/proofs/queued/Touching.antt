@@ -1,9 +1,9 @@
 -- A file that was read changes nothing for a scan.
 use Rattle.std.proofs.Common.{ℕ, refl, ◌∙◌, inl, inr}
 use Rattle.std.specs.Prelude.{is_some}
-use Rattle.fsrm_model.specs.FileOps.{touched}
-use Rattle.fsrm_model.specs.QuotaStates.{head}
-use Rattle.fsrm_model.specs.Valid.{IsVolume}
+use Rattle.fsrm_model.specs.nodes.FileOps.{touched}
+use Rattle.fsrm_model.specs.objects.QuotaStates.{head}
+use Rattle.fsrm_model.specs.store.Valid.{IsVolume}
 use Rattle.fsrm_model.proofs.nodes.Keeps.{folder-change}
 use Rattle.fsrm_base.proofs.Look.{none_row}
 use Rattle.fsrm_base.proofs.TestLaws.{is_or_not}

@@ -5,9 +5,9 @@ use Rattle.std.specs.Option.{option_map_or}
 use Rattle.std.specs.List.{remove}
 use Rattle.fsrm_model.specs.declared.row.NodeRow.{NodeRow}
 use Rattle.fsrm_base.specs.Numbers.{is_in, each_once, without_number}
-use Rattle.fsrm_model.specs.QuotaStates.{head, same_head, scan_begun}
-use Rattle.fsrm_model.specs.Scan.{folders_under}
-use Rattle.fsrm_model.specs.Tree.{number, is_folder, chain}
+use Rattle.fsrm_model.specs.objects.QuotaStates.{head, same_head, scan_begun}
+use Rattle.fsrm_model.specs.objects.Scan.{folders_under}
+use Rattle.fsrm_model.specs.nodes.Tree.{number, is_folder, chain}
 use Rattle.fsrm_base.proofs.Look.{some_row}
 use Rattle.volume_tree.specs.Volume.{Volume}
 use Rattle.rescan.specs.Frontiers.{Front, Room, Suits, Follows, idle, has_above, unvisited}

@@ -4,10 +4,10 @@ use Rattle.std.proofs.lemmas.List.Sums.{sum_by-cons}
 use Rattle.std.specs.Prelude.{filter, sum_by}
 use Rattle.std.specs.Option.{option_map_or}
 use Rattle.fsrm_model.specs.declared.row.NodeRow.{NodeRow}
-use Rattle.fsrm_model.specs.Cost.{visit_cost}
+use Rattle.fsrm_model.specs.commands.Cost.{visit_cost}
 use Rattle.fsrm_base.specs.Numbers.{itself, is_in, is_set, without_number, without_numbers}
-use Rattle.fsrm_model.specs.Scan.{is_topmost, next_visit, visit, visits}
-use Rattle.fsrm_model.specs.Tree.{children}
+use Rattle.fsrm_model.specs.objects.Scan.{is_topmost, next_visit, visit, visits}
+use Rattle.fsrm_model.specs.nodes.Tree.{children}
 use Rattle.fsrm_base.proofs.TestLaws.{eq_same, or_later}
 use Rattle.fsrm_base.proofs.Look.{found_own}
 use Rattle.fsrm_base.proofs.EditedRows.{sum_by-without_row}

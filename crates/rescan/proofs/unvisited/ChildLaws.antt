@@ -10,10 +10,10 @@ use Rattle.std.specs.List.{list_any}
 use Rattle.fsrm_model.specs.declared.row.Capacity.{Capacity}
 use Rattle.fsrm_model.specs.declared.row.NodeRow.{NodeRow}
 use Rattle.fsrm_base.specs.Keyed.{is_ascending}
-use Rattle.fsrm_model.specs.Name.{name_before}
+use Rattle.fsrm_model.specs.values.Name.{name_before}
 use Rattle.fsrm_base.specs.Numbers.{is_in, with_number, with_numbers}
-use Rattle.fsrm_model.specs.Space.{space}
-use Rattle.fsrm_model.specs.Tree.{number, node_of, parent_of, is_folder, is_child, children, children_in_order}
+use Rattle.fsrm_model.specs.values.Space.{space}
+use Rattle.fsrm_model.specs.nodes.Tree.{number, node_of, parent_of, is_folder, is_child, children, children_in_order}
 use Rattle.fsrm_base.proofs.TestLaws.{both, eq_is, is_false}
 use Rattle.fsrm_model.proofs.nodes.Keeps.{folder_found, found_folder, is_child_test}
 use Rattle.fsrm_base.proofs.Look.{found_key}

@@ -11,8 +11,8 @@ use Rattle.fsrm_model.specs.declared.row.NodeRow.{NodeRow}
 use Rattle.fsrm_base.specs.Keyed.{has_row, is_ascending}
 use Rattle.fsrm_base.specs.Numbers.{with_number, with_numbers}
 use Rattle.fsrm_base.proofs.Look.{found_has}
-use Rattle.fsrm_model.specs.Space.{alloc, space}
-use Rattle.fsrm_model.specs.Tree.{number, node_of, is_folder, is_child, children, children_in_order}
+use Rattle.fsrm_model.specs.values.Space.{alloc, space}
+use Rattle.fsrm_model.specs.nodes.Tree.{number, node_of, is_folder, is_child, children, children_in_order}
 use Rattle.fsrm_model.proofs.nodes.Keeps.{found_folder}
 use Rattle.node_table.specs.declared.view.NodeView.{NodeView}
 use Rattle.volume_tree.specs.Volume.{Shows}

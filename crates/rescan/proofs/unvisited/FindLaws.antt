@@ -5,8 +5,8 @@ use Rattle.std.specs.List.{list_any}
 use Rattle.fsrm_model.specs.declared.row.NodeRow.{NodeRow}
 use Rattle.fsrm_base.specs.Keyed.{row_of, has_row, is_ascending}
 use Rattle.fsrm_base.specs.Numbers.{itself, is_in, is_set, with_number, without_number, with_numbers}
-use Rattle.fsrm_model.specs.Tree.{number, is_folder, is_child, children, chain}
-use Rattle.fsrm_model.specs.Valid.{IsVolume}
+use Rattle.fsrm_model.specs.nodes.Tree.{number, is_folder, is_child, children, chain}
+use Rattle.fsrm_model.specs.store.Valid.{IsVolume}
 use Rattle.fsrm_base.proofs.TestLaws.{is_or_not, both_true, eq_is, eq_turned, lt_is}
 use Rattle.fsrm_base.proofs.EditedRows.{sum_by-filter, sum_by-without_row}
 use Rattle.fsrm_model.proofs.nodes.Keeps.{folder_found}

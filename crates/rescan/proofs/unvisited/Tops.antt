@@ -6,9 +6,9 @@ use Rattle.std.specs.List.{list_any}
 use Rattle.fsrm_model.specs.declared.row.Capacity.{Capacity}
 use Rattle.fsrm_model.specs.declared.row.NodeRow.{NodeRow}
 use Rattle.fsrm_base.specs.Numbers.{is_in, is_set}
-use Rattle.fsrm_model.specs.Scan.{is_topmost, counted}
-use Rattle.fsrm_model.specs.Tree.{number, node_of, parent_of, is_folder, chain, is_under}
-use Rattle.fsrm_model.specs.Valid.{IsVolume}
+use Rattle.fsrm_model.specs.objects.Scan.{is_topmost, counted}
+use Rattle.fsrm_model.specs.nodes.Tree.{number, node_of, parent_of, is_folder, chain, is_under}
+use Rattle.fsrm_model.specs.store.Valid.{IsVolume}
 use Rattle.fsrm_base.proofs.TestLaws.{clash, not_true, is_false, both, both_true, is_or, or_later, eq_is, eq_same, not_root, same_tests}
 use Rattle.fsrm_model.proofs.valid.ValidLaws.{folder_has, found_parent}
 use Rattle.fsrm_model.proofs.nodes.ChainLaws.{IsTree, Has}

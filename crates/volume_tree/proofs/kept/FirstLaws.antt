@@ -2,7 +2,7 @@
 use Rattle.std.proofs.Common.{◌≡◌, ℕ, ◌+◌, ◌-◌, ◌<◌, ◌≤◌, List, [], length, slice_index, Option, refl}
 use Rattle.fsrm_model.specs.declared.row.Capacity.{Capacity}
 use Rattle.fsrm_model.specs.declared.row.NodeRow.{NodeRow}
-use Rattle.fsrm_model.specs.Tree.{children}
+use Rattle.fsrm_model.specs.nodes.Tree.{children}
 use Rattle.number_set.specs.Numbers.{Numbers}
 use Rattle.block_list.specs.Runs.{entries_of}
 use Rattle.volume_tree.specs.Entries.{IsFirst, Sequence}

@@ -5,9 +5,9 @@ use Rattle.fsrm_model.specs.declared.row.Capacity.{Capacity}
 use Rattle.fsrm_model.specs.declared.row.NodeRow.{NodeRow}
 use Rattle.fsrm_base.specs.Keyed.{has_row}
 use Rattle.fsrm_base.specs.Numbers.{without_number}
-use Rattle.fsrm_model.specs.Tree.{number, fresh, is_folder, child_number}
-use Rattle.fsrm_model.specs.Capacities.{is_capacity}
-use Rattle.fsrm_model.specs.Valid.{is_own}
+use Rattle.fsrm_model.specs.nodes.Tree.{number, fresh, is_folder, child_number}
+use Rattle.fsrm_model.specs.store.Capacities.{is_capacity}
+use Rattle.fsrm_model.specs.store.Valid.{is_own}
 use Rattle.fsrm_base.proofs.TestLaws.{both, le_is}
 use Rattle.block_list.specs.Runs.{entries_of}
 use Rattle.number_set.specs.Numbers.{Numbers}

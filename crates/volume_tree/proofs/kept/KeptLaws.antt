@@ -6,13 +6,13 @@ use Rattle.std.proofs.lemmas.Slice.Eq.{bytes_eq-Decides}
 use Rattle.std.specs.Prelude.{filter, insert, remove, max, slice_get, slice_index, is_some, option_map, if◌then◌else◌, IfOk, IfErr, OnOk}
 use Rattle.fsrm_model.specs.declared.row.Capacity.{Capacity}
 use Rattle.fsrm_model.specs.declared.row.NodeRow.{NodeRow}
-use Rattle.fsrm_model.specs.FileOps.{resized, touched, placed}
+use Rattle.fsrm_model.specs.nodes.FileOps.{resized, touched, placed}
 use Rattle.fsrm_base.specs.Numbers.{with_number, without_number}
 use Rattle.fsrm_base.specs.Keyed.{has_row, with_row, with_change, without_row}
-use Rattle.fsrm_model.specs.Limits.{latest_moment, longest_file, most_nodes}
-use Rattle.fsrm_model.specs.Name.{folded, is_name, same_name}
-use Rattle.fsrm_model.specs.Tree.{number, node_of, parent_of, name_of, fresh, is_folder, is_child, is_under, child_of, child_number, children, name_bytes}
-use Rattle.fsrm_model.specs.Valid.{IsVolume, is_own, is_root_node}
+use Rattle.fsrm_model.specs.values.Limits.{latest_moment, longest_file, most_nodes}
+use Rattle.fsrm_model.specs.values.Name.{folded, is_name, same_name}
+use Rattle.fsrm_model.specs.nodes.Tree.{number, node_of, parent_of, name_of, fresh, is_folder, is_child, is_under, child_of, child_number, children, name_bytes}
+use Rattle.fsrm_model.specs.store.Valid.{IsVolume, is_own, is_root_node}
 use Rattle.fsrm_model.proofs.valid.CapacityLaws.{nodes_most}
 use Rattle.fsrm_base.proofs.EditedRows.{length-with_row, length-change}
 use Rattle.fsrm_model.proofs.nodes.Keeps.{volume-new, volume-change, volume-moved, volume-removed, KeepsNode, name_bytes-change, found_folder}

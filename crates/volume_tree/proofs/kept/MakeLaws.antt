@@ -3,7 +3,7 @@ use Rattle.std.proofs.Common.{◌≡◌, ℕ, ◌+◌, ◌<◌, ◌≤◌, Bool,
 use Rattle.std.proofs.lemmas.Bool.Decides.{nat_tests}
 use Rattle.std.specs.Prelude.{[], ◌∷◌, is_some, Some}
 use Rattle.fsrm_base.specs.Causes.{◌when◌, first}
-use Rattle.fsrm_model.specs.Tree.{child_number, name_bytes}
+use Rattle.fsrm_model.specs.nodes.Tree.{child_number, name_bytes}
 use Rattle.volume_tree.specs.declared.answer.TreeFault.TheVariants.{AlreadyExists, VolumeFull, NamesFull}
 use Rattle.volume_tree.specs.Volume.{Volume, new_fault}
 use Rattle.fsrm_base.proofs.TestLaws.{ge_is}

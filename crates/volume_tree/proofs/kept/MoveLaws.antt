@@ -2,11 +2,11 @@
 use Rattle.std.proofs.Common.{◌≡◌, ℕ, ◌+◌, ◌≤◌, ◌==◌, Bool, true, false, length, List, refl, None}
 use Rattle.std.specs.Prelude.{[], ◌∷◌}
 use Rattle.fsrm_base.specs.Causes.{◌when◌, first}
-use Rattle.fsrm_model.specs.FileOps.{placed}
+use Rattle.fsrm_model.specs.nodes.FileOps.{placed}
 use Rattle.fsrm_base.specs.Keyed.{has_row, with_change}
-use Rattle.fsrm_model.specs.Name.{is_name}
-use Rattle.fsrm_model.specs.Tree.{number, name_of, is_folder, is_under, child_number, name_bytes}
-use Rattle.fsrm_model.specs.Valid.{IsVolume}
+use Rattle.fsrm_model.specs.values.Name.{is_name}
+use Rattle.fsrm_model.specs.nodes.Tree.{number, name_of, is_folder, is_under, child_number, name_bytes}
+use Rattle.fsrm_model.specs.store.Valid.{IsVolume}
 use Rattle.volume_tree.specs.declared.answer.TreeFault.TheVariants.{AlreadyExists, InvalidMove, NamesFull}
 use Rattle.volume_tree.specs.Volume.{Volume, is_other, move_fault}
 use Rattle.volume_tree.proofs.kept.KeptLaws.{volume_placed}

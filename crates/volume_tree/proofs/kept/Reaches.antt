@@ -6,8 +6,8 @@ use Rattle.std.proofs.lemmas.Bool.Decides.{nat_tests}
 use Rattle.std.proofs.lemmas.Option.{same_Some}
 use Rattle.fsrm_model.specs.declared.row.NodeRow.{NodeRow}
 use Rattle.fsrm_base.specs.Keyed.{has_row}
-use Rattle.fsrm_model.specs.Tree.{number, parent_of, is_folder, is_under, chain_in}
-use Rattle.fsrm_model.specs.Valid.{is_root_node, is_own}
+use Rattle.fsrm_model.specs.nodes.Tree.{number, parent_of, is_folder, is_under, chain_in}
+use Rattle.fsrm_model.specs.store.Valid.{is_root_node, is_own}
 use Rattle.fsrm_model.proofs.nodes.ChainLaws.{Has, IsTree, stable}
 use Rattle.fsrm_base.proofs.EditedRows.{all_rows}
 use Rattle.fsrm_base.specs.Numbers.{is_in}

@@ -5,18 +5,18 @@ use Rattle.std.proofs.lemmas.List.{get_or_default}
 use Rattle.std.specs.List.{list_all}
 use Rattle.fsrm_model.specs.declared.row.Capacity.{Capacity}
 use Rattle.fsrm_model.specs.declared.row.NodeRow.{NodeRow}
-use Rattle.fsrm_model.specs.Fresh.{root_node}
+use Rattle.fsrm_model.specs.nodes.Fresh.{root_node}
 use Rattle.fsrm_base.specs.Keyed.{is_ascending, has_row}
-use Rattle.fsrm_model.specs.Name.{same_name}
-use Rattle.fsrm_model.specs.Tree.{number, node_of, is_folder, is_child, is_under, name_bytes}
-use Rattle.fsrm_model.specs.Valid.{is_tree, is_sound_node, is_root_node, is_inner_node, is_only_one, is_own, IsVolume}
+use Rattle.fsrm_model.specs.values.Name.{same_name}
+use Rattle.fsrm_model.specs.nodes.Tree.{number, node_of, is_folder, is_child, is_under, name_bytes}
+use Rattle.fsrm_model.specs.store.Valid.{is_tree, is_sound_node, is_root_node, is_inner_node, is_only_one, is_own, IsVolume}
 use Rattle.fsrm_base.proofs.Look.{found_has}
 use Rattle.fsrm_base.proofs.Members.{all_found, all_pass}
 use Rattle.fsrm_base.proofs.Order.{is_above, join, parts}
 use Rattle.fsrm_base.proofs.TestLaws.{both, both_true, clash, eq_is, eq_same, is_false, lt_is, lt_test, not_true, le_is, le_test}
 use Rattle.fsrm_model.proofs.valid.ValidVolume.{volume_of_tree}
 use Rattle.volume_tree.specs.Kept.{IsOrder, is_before}
-use Rattle.fsrm_model.specs.Limits.{latest_moment, longest_file}
+use Rattle.fsrm_model.specs.values.Limits.{latest_moment, longest_file}
 use Rattle.volume_tree.specs.Sound.{HasTwins, are_from, are_sound, is_in_range, is_placed}
 use Rattle.volume_tree.proofs.ordering.Entries.{entry_of}
 use Rattle.volume_tree.proofs.ordering.Names.{comes_apart}

@@ -8,10 +8,10 @@ use Rattle.std.proofs.lemmas.List.Edits.{length-between, get_or-between}
 use Rattle.std.proofs.lemmas.List.Sorted.{length_permutation}
 use Rattle.std.proofs.lemmas.Option.{same_Some, slice_get-get_or}
 use Rattle.fsrm_model.specs.declared.row.NodeRow.{NodeRow}
-use Rattle.fsrm_model.specs.Fresh.{root_node}
+use Rattle.fsrm_model.specs.nodes.Fresh.{root_node}
 use Rattle.fsrm_base.specs.Keyed.{is_ascending}
-use Rattle.fsrm_model.specs.Name.{name_before}
-use Rattle.fsrm_model.specs.Tree.{number, node_of, children, children_in_order}
+use Rattle.fsrm_model.specs.values.Name.{name_before}
+use Rattle.fsrm_model.specs.nodes.Tree.{number, node_of, children, children_in_order}
 use Rattle.volume_tree.specs.Kept.{IsOrder, IsPlace}
 use Rattle.volume_tree.specs.Volume.{IsChildAt}
 use Rattle.volume_tree.proofs.ordering.Entries.{at, number_there, node_there, length-order_entries}

@@ -5,8 +5,8 @@ use Rattle.std.specs.Ordering.{ordering_then}
 use Rattle.std.specs.Prelude.{unwrap_or}
 use Rattle.fsrm_model.specs.declared.row.NodeRow.{NodeRow}
 use Rattle.fsrm_base.proofs.TestLaws.{clash}
-use Rattle.fsrm_model.specs.Tree.{node_of}
-use Rattle.fsrm_model.specs.Name.{name_cmp}
+use Rattle.fsrm_model.specs.nodes.Tree.{node_of}
+use Rattle.fsrm_model.specs.values.Name.{name_cmp}
 use Rattle.name_rules.specs.Prefix.{prefix}
 use Rattle.name_rules.proofs.Folds.{is_eq_name_cmp}
 use Rattle.name_rules.proofs.PrefixLaws.{prefix_first}

@@ -8,9 +8,9 @@ use Rattle.std.proofs.lemmas.List.Kept.{AllPairs-cons}
 use Rattle.std.proofs.lemmas.List.Sorted.{All-permutation, Contains-permutation}
 use Rattle.std.proofs.lemmas.Option.{same_Some, slice_get-get_or, slice_get_within, get_or_from_slice_get}
 use Rattle.fsrm_model.specs.declared.row.NodeRow.{NodeRow}
-use Rattle.fsrm_model.specs.Fresh.{root_node}
+use Rattle.fsrm_model.specs.nodes.Fresh.{root_node}
 use Rattle.fsrm_base.specs.Keyed.{is_ascending, row_of}
-use Rattle.fsrm_model.specs.Tree.{number, node_of}
+use Rattle.fsrm_model.specs.nodes.Tree.{number, node_of}
 use Rattle.fsrm_base.proofs.Look.{found_key}
 use Rattle.fsrm_base.proofs.Order.{parts}
 use Rattle.fsrm_base.proofs.TestLaws.{eq_same, is_false}

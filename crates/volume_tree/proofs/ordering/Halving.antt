@@ -2,7 +2,7 @@
 use Rattle.std.proofs.Common.{◌≡◌, ℕ, zero, suc, ◌+◌, ◌-◌, ◌/◌, ◌^◌, ◌<◌, ◌≤◌, ◌==◌, ◌&&◌, ◌||◌, nat_lt, Bool, true, false, List, [], length, refl, sym, ◌∙◌, ap, subst, arith, pow-suc}
 use Rattle.std.proofs.lemmas.Bool.Decides.{nat_tests}
 use Rattle.fsrm_model.specs.declared.row.NodeRow.{NodeRow}
-use Rattle.fsrm_model.specs.Fresh.{root_node}
+use Rattle.fsrm_model.specs.nodes.Fresh.{root_node}
 use Rattle.volume_tree.specs.Kept.{IsOrder, is_before}
 use Rattle.volume_tree.proofs.ordering.Entries.{at}
 use Rattle.volume_tree.proofs.ordering.Names.{comes_then, name_before_empty}

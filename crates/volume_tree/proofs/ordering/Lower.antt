@@ -5,7 +5,7 @@ use Rattle.std.proofs.lemmas.List.Elements.{All-contains}
 use Rattle.std.proofs.lemmas.Option.{slice_get-get_or}
 use Rattle.fsrm_model.specs.declared.row.NodeRow.{NodeRow}
 use Rattle.fsrm_base.specs.Keyed.{is_ascending}
-use Rattle.fsrm_model.specs.Tree.{number}
+use Rattle.fsrm_model.specs.nodes.Tree.{number}
 use Rattle.block_list.specs.Runs.{entries_of, start_of}
 use Rattle.volume_tree.specs.Entries.{AreOwn, IsFirst, IsLower, IsNotLower, IsOwn, Sequence}
 use Rattle.volume_tree.specs.Kept.{IsFloor, IsOrder, IsPlace}

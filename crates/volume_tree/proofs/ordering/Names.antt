@@ -6,7 +6,7 @@ use Rattle.std.proofs.lemmas.Slice.Eq.{bytes_eq-Decides}
 use Rattle.std.specs.Cmp.Lexicographic.{slice_cmp, texts_ties}
 use Rattle.std.specs.Ordering.{ordering_reverse, is_eq}
 use Rattle.std.specs.Str.{chars}
-use Rattle.fsrm_model.specs.Name.{folded, same_name, name_before}
+use Rattle.fsrm_model.specs.values.Name.{folded, same_name, name_before}
 use Rattle.fsrm_base.proofs.TestLaws.{not_true, eq_is, lt_is}
 
 -- names that are one have one folding

@@ -3,7 +3,7 @@ use Rattle.std.proofs.Common.{◌≡◌, ℕ, ◌+◌, ◌-◌, ◌/◌, ◌<◌
 use Rattle.std.specs.Prelude.{if◌then◌else◌}
 use Rattle.fsrm_model.specs.declared.row.NodeRow.{NodeRow}
 use Rattle.fsrm_base.specs.Keyed.{is_ascending}
-use Rattle.fsrm_model.specs.Tree.{number, node_of}
+use Rattle.fsrm_model.specs.nodes.Tree.{number, node_of}
 use Rattle.block_list.specs.Runs.{entries_of, start_of}
 use Rattle.volume_tree.specs.Kept.{IsBeyond, IsFloor, IsOrder, is_before, is_named}
 use Rattle.volume_tree.proofs.ordering.Halving.{IsFew, few_halved}

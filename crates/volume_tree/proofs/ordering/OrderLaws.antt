@@ -13,11 +13,11 @@ use Rattle.std.proofs.lemmas.List.Quantifiers.{all_pairs_remove}
 use Rattle.std.proofs.lemmas.List.Sorted.{IsPermutation-cons, IsPermutation-trans, IsPermutation-sym, IsPermutation-insert, IsPermutation-remove, IsPermutation-map, All-permutation, Contains-permutation, length_permutation}
 use Rattle.std.proofs.lemmas.Option.{same_Some}
 use Rattle.fsrm_model.specs.declared.row.NodeRow.{NodeRow}
-use Rattle.fsrm_model.specs.FileOps.{placed}
-use Rattle.fsrm_model.specs.Fresh.{root_node}
+use Rattle.fsrm_model.specs.nodes.FileOps.{placed}
+use Rattle.fsrm_model.specs.nodes.Fresh.{root_node}
 use Rattle.fsrm_base.specs.Keyed.{is_ascending, has_row, with_row, with_change, without_row}
-use Rattle.fsrm_model.specs.Name.{same_name}
-use Rattle.fsrm_model.specs.Tree.{number, node_of, is_child, child_of, child_number}
+use Rattle.fsrm_model.specs.values.Name.{same_name}
+use Rattle.fsrm_model.specs.nodes.Tree.{number, node_of, is_child, child_of, child_number}
 use Rattle.fsrm_base.proofs.Look.{found_lacks, has_found, is_some-find, row_of-without}
 use Rattle.fsrm_base.proofs.Order.{ascending-filter}
 use Rattle.fsrm_base.proofs.EditedRows.{sum_by-without_row}

@@ -6,10 +6,10 @@ use Rattle.std.proofs.lemmas.List.{get_or_default}
 use Rattle.std.proofs.lemmas.Option.{same_Some}
 use Rattle.std.specs.Prelude.{is_some}
 use Rattle.fsrm_model.specs.declared.row.NodeRow.{NodeRow}
-use Rattle.fsrm_model.specs.Fresh.{root_node}
+use Rattle.fsrm_model.specs.nodes.Fresh.{root_node}
 use Rattle.fsrm_base.specs.Keyed.{is_ascending}
-use Rattle.fsrm_model.specs.Name.{same_name}
-use Rattle.fsrm_model.specs.Tree.{number, node_of, is_child, child_of, child_number}
+use Rattle.fsrm_model.specs.values.Name.{same_name}
+use Rattle.fsrm_model.specs.nodes.Tree.{number, node_of, is_child, child_of, child_number}
 use Rattle.fsrm_base.proofs.Look.{found_any, found_key, found_own, found_passes, is_some-find}
 use Rattle.fsrm_base.proofs.TestLaws.{eq_is, clash, both, is_false}
 use Rattle.volume_tree.specs.Kept.{IsOrder, IsPlace, is_before}

@@ -6,7 +6,7 @@ use Rattle.std.proofs.lemmas.List.{drop-drop, take-append-le, take_rest}
 use Rattle.std.proofs.lemmas.Option.{slice_get_within, get_or_from_slice_get}
 use Rattle.fsrm_model.specs.declared.row.NodeRow.{NodeRow}
 use Rattle.fsrm_base.specs.Keyed.{is_ascending}
-use Rattle.fsrm_model.specs.Tree.{number, node_of, children}
+use Rattle.fsrm_model.specs.nodes.Tree.{number, node_of, children}
 use Rattle.block_list.specs.declared.place.Place.{Place}
 use Rattle.block_list.specs.Places.{index_of}
 use Rattle.block_list.specs.Runs.{entries_of, run_at, start_of}

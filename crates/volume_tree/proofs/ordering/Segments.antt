@@ -9,11 +9,11 @@ use Rattle.std.proofs.lemmas.List.Elements.{All-contains, All-contains_itself}
 use Rattle.std.proofs.lemmas.List.Kept.{AllPairs-filter}
 use Rattle.std.proofs.lemmas.List.Sorted.{All-permutation, Contains-permutation, length_permutation}
 use Rattle.fsrm_model.specs.declared.row.NodeRow.{NodeRow}
-use Rattle.fsrm_model.specs.Fresh.{root_node}
+use Rattle.fsrm_model.specs.nodes.Fresh.{root_node}
 use Rattle.fsrm_base.specs.Keyed.{is_ascending}
-use Rattle.fsrm_model.specs.Name.{name_before}
+use Rattle.fsrm_model.specs.values.Name.{name_before}
 use Rattle.fsrm_base.specs.Order.{in_order}
-use Rattle.fsrm_model.specs.Tree.{number, node_of, is_child, children, children_in_order}
+use Rattle.fsrm_model.specs.nodes.Tree.{number, node_of, is_child, children, children_in_order}
 use Rattle.fsrm_base.proofs.TestLaws.{eq_is, clash, both, is_false}
 use Rattle.volume_tree.specs.Kept.{IsOrder, IsPlace}
 use Rattle.volume_tree.proofs.ordering.Entries.{at, place_divides, ascending_pairs, rows_found, entry_of, entry_there}

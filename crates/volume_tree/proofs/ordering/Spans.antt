@@ -6,10 +6,10 @@ use Rattle.std.proofs.lemmas.Bool.{cases_eq}
 use Rattle.std.proofs.lemmas.List.{drop-map, take-map, get_or_default}
 use Rattle.std.proofs.lemmas.Option.{same_Some, slice_get-get_or, slice_get_within, get_or_from_slice_get}
 use Rattle.fsrm_model.specs.declared.row.NodeRow.{NodeRow}
-use Rattle.fsrm_model.specs.Fresh.{root_node}
+use Rattle.fsrm_model.specs.nodes.Fresh.{root_node}
 use Rattle.fsrm_base.specs.Keyed.{is_ascending}
-use Rattle.fsrm_model.specs.Name.{same_name}
-use Rattle.fsrm_model.specs.Tree.{number, node_of, child_number}
+use Rattle.fsrm_model.specs.values.Name.{same_name}
+use Rattle.fsrm_model.specs.nodes.Tree.{number, node_of, child_number}
 use Rattle.fsrm_base.proofs.Look.{found_key}
 use Rattle.fsrm_base.proofs.TestLaws.{not_true, clash, both, eq_is, is_false}
 use Rattle.volume_tree.specs.Kept.{IsOrder, IsPlace, IsFloor, IsBeyond, IsNamed, IsSegment, has_name, is_before, is_named}

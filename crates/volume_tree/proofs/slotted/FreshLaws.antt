@@ -5,8 +5,8 @@ use Rattle.std.specs.List.{AllByRecursion}
 use Rattle.fsrm_model.specs.declared.row.Capacity.{Capacity}
 use Rattle.fsrm_model.specs.declared.row.NodeRow.{NodeRow}
 use Rattle.fsrm_base.specs.Keyed.{is_ascending, has_row, least_free, least_free_from}
-use Rattle.fsrm_model.specs.Tree.{number, node_of, fresh}
-use Rattle.fsrm_model.specs.Valid.{IsVolume}
+use Rattle.fsrm_model.specs.nodes.Tree.{number, node_of, fresh}
+use Rattle.fsrm_model.specs.store.Valid.{IsVolume}
 use Rattle.fsrm_base.proofs.EditedRows.{all_rows}
 use Rattle.fsrm_base.proofs.Look.{FoundRow, has_found}
 use Rattle.fsrm_base.proofs.Order.{parts, least_free_is}

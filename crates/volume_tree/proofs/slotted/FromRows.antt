@@ -7,7 +7,7 @@ use Rattle.std.proofs.lemmas.List.Sums.{sum_by-take-le, sum_by_push}
 use Rattle.std.specs.Prelude.{is_some}
 use Rattle.fsrm_base.proofs.TestLaws.{both, le_is, lt_is}
 use Rattle.fsrm_model.specs.declared.row.NodeRow.{NodeRow}
-use Rattle.fsrm_model.specs.Tree.{name_bytes}
+use Rattle.fsrm_model.specs.nodes.Tree.{name_bytes}
 use Rattle.node_table.specs.Slots.{rows_of, AreSlots, is_taken, with_slot}
 use Rattle.node_table.specs.Views.{IsInRange}
 use Rattle.node_table.proofs.PlaceLaws.{length-with_at}

@@ -6,7 +6,7 @@ use Rattle.std.specs.Prelude.{is_some, slice_get, max}
 use Rattle.fsrm_model.specs.declared.row.NodeRow.{NodeRow}
 use Rattle.fsrm_base.specs.Keyed.{has_row, with_row, with_change, without_row}
 use Rattle.fsrm_base.specs.Numbers.{is_in, is_set, with_number, without_number}
-use Rattle.fsrm_model.specs.Tree.{number, fresh}
+use Rattle.fsrm_model.specs.nodes.Tree.{number, fresh}
 use Rattle.fsrm_base.proofs.EditedRows.{find-with_row_same}
 use Rattle.fsrm_base.proofs.Look.{is_some-find, has_row-change, has_row-without, has_row-without_other, has_row-new_other}
 use Rattle.fsrm_base.proofs.TestLaws.{both, clash, eq_is, eq_same, eq_test, eq_turned, same_tests, lt_is, lt_test, not_true, is_false}

@@ -7,7 +7,7 @@ use Rattle.std.proofs.lemmas.Option.{same_Some}
 use Rattle.std.specs.Prelude.{is_some, option_map}
 use Rattle.fsrm_model.specs.declared.row.NodeRow.{NodeRow}
 use Rattle.fsrm_base.specs.Keyed.{has_row, with_row, with_change, without_row}
-use Rattle.fsrm_model.specs.Tree.{number, node_of}
+use Rattle.fsrm_model.specs.nodes.Tree.{number, node_of}
 use Rattle.fsrm_base.proofs.EditedRows.{change_absent, without_absent}
 use Rattle.fsrm_base.proofs.Look.{is_some-find, found_key, has_found}
 use Rattle.fsrm_base.proofs.TestLaws.{lt_test, eq_test, eq_below, eq_above, not_lt}

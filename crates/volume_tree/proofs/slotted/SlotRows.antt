@@ -3,7 +3,7 @@ use Rattle.std.proofs.Common.{◌≡◌, ℕ, suc, ◌+◌, ◌<◌, ◌≤◌, 
 use Rattle.std.proofs.lemmas.Bool.Decides.{nat_tests}
 use Rattle.fsrm_model.specs.declared.row.NodeRow.{NodeRow}
 use Rattle.fsrm_base.specs.Keyed.{is_ascending}
-use Rattle.fsrm_model.specs.Tree.{number, node_of}
+use Rattle.fsrm_model.specs.nodes.Tree.{number, node_of}
 use Rattle.fsrm_base.proofs.Order.{is_above, join}
 use Rattle.fsrm_base.proofs.TestLaws.{eq_is}
 use Rattle.volume_tree.specs.Kept.{AreSlots, rows_of}

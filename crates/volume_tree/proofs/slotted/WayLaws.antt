@@ -3,7 +3,7 @@ use Rattle.std.proofs.Common.{◌≡◌, ℕ, List, Option, Some, None, refl, sy
 use Rattle.std.specs.Prelude.{option_map, unwrap_or}
 use Rattle.std.specs.Option.{option_map_or}
 use Rattle.fsrm_model.specs.declared.row.NodeRow.{NodeRow}
-use Rattle.fsrm_model.specs.Tree.{parent_of}
+use Rattle.fsrm_model.specs.nodes.Tree.{parent_of}
 use Rattle.fsrm_model.proofs.nodes.ChainLaws.{Has}
 use Rattle.node_table.specs.Slots.{slot_at}
 use Rattle.volume_tree.specs.Kept.{rows_of}

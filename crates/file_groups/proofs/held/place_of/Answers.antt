@@ -1,5 +1,5 @@
 use Rattle.std.proofs.Common.{sym, ap, ◌∙◌}
-use Rattle.fsrm_model.specs.Patterns.{group_number}
+use Rattle.fsrm_model.specs.values.Patterns.{group_number}
 use Rattle.file_groups.proofs.GroupLaws.{at_number}
 use Rattle.file_groups.proofs.held.place_of.Goals as goal
 

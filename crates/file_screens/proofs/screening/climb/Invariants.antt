@@ -1,7 +1,7 @@
 use Rattle.std.proofs.Common.{◌≡◌, ℕ, ◌+◌, List, ◌∷◌, length, false}
 use Rattle.std.specs.Prelude.{option_map}
 use Rattle.fsrm_base.specs.Numbers.{is_in}
-use Rattle.fsrm_model.specs.Name.{folded}
+use Rattle.fsrm_model.specs.values.Name.{folded}
 use Rattle.file_screens.specs.Blocked.{told}
 use Rattle.file_screens.specs.Way.{applying_on, judging_on}
 use Rattle.file_screens.proofs.JudgeLaws.{judged_by}

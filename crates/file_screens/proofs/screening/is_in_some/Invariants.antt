@@ -1,9 +1,9 @@
 use Rattle.std.proofs.Common.{◌≡◌, ℕ, List, true, drop}
 use Rattle.std.specs.List.{list_all}
 use Rattle.fsrm_base.specs.Keyed.{has_row}
-use Rattle.fsrm_model.specs.Name.{folded}
-use Rattle.fsrm_model.specs.Patterns.{group_number}
-use Rattle.fsrm_model.specs.Screens.{in_groups}
+use Rattle.fsrm_model.specs.values.Name.{folded}
+use Rattle.fsrm_model.specs.values.Patterns.{group_number}
+use Rattle.fsrm_model.specs.objects.Screens.{in_groups}
 use Rattle.file_screens.proofs.screening.is_in_some.Given as goal
 
 abbrev pub invariant-loop-number : goal.invariant-loop-number

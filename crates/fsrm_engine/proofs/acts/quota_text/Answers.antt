@@ -2,7 +2,7 @@ use Rattle.std.proofs.Common.{List, ap, sym, ◌∙◌}
 use Rattle.std.specs.Option.{option_copied}
 use Rattle.fsrm_base.specs.Keyed.{is_ascending}
 use Rattle.fsrm_model.specs.declared.row.Threshold.{Threshold}
-use Rattle.fsrm_model.specs.Thresholds.{percent_of}
+use Rattle.fsrm_model.specs.objects.Thresholds.{percent_of}
 use Rattle.fsrm_engine.proofs.settling.OrderlyQuotas.{row_ascends}
 use Rattle.fsrm_engine.proofs.acts.quota_text.Goals as goal
 

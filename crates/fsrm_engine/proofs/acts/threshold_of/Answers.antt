@@ -1,7 +1,7 @@
 use Rattle.std.proofs.Common.{◌==◌, sym, ◌∙◌}
 use Rattle.fsrm_base.specs.Keyed.{row_of}
 use Rattle.fsrm_base.proofs.Look.{is_some-find, none_row}
-use Rattle.fsrm_model.specs.Thresholds.{percent_of}
+use Rattle.fsrm_model.specs.objects.Thresholds.{percent_of}
 use Rattle.fsrm_engine.proofs.acts.threshold_of.Goals as goal
 
 pub returns-in-Err : goal.returns-in-Err

@@ -1,6 +1,6 @@
 use Rattle.std.proofs.Common.{◌≡◌, ◌+◌, ◌≤◌, Some, take}
 use Rattle.fsrm_model.specs.declared.row.TemplateRow.{TemplateRow}
-use Rattle.fsrm_model.specs.Templates.{template_of}
+use Rattle.fsrm_model.specs.objects.Templates.{template_of}
 use Rattle.fsrm_engine.specs.Applying.{derived_rows}
 use Rattle.fsrm_engine.proofs.applying.derived_rows.Given as goal
 

@@ -1,8 +1,8 @@
 use Rattle.std.proofs.Common.{ℕ, ◌&&◌, ◌++◌, ◌∙◌, Bool, List, ap, subst, sym, arith, IsPermutation}
 use Rattle.std.proofs.lemmas.List.Sorted.{IsNonDecreasingBy-from_sort}
 use Rattle.std.specs.Prelude.{filter}
-use Rattle.fsrm_model.specs.Name.{name_before}
-use Rattle.fsrm_model.specs.Tree.{children, is_folder}
+use Rattle.fsrm_model.specs.values.Name.{name_before}
+use Rattle.fsrm_model.specs.nodes.Tree.{children, is_folder}
 use Rattle.fsrm_engine.specs.Applying.{gets_one}
 use Rattle.fsrm_engine.specs.Walk.{AreThere}
 use Rattle.fsrm_engine.proofs.applied.EligibleFolders.{eligible_sorted}

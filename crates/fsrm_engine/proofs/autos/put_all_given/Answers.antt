@@ -1,6 +1,6 @@
 use Rattle.std.proofs.Common.{ℕ, ◌&&◌, ◌++◌, ◌∙◌, Bool, List, ap, append_assoc, length, length-append, subst, sym, arith}
 use Rattle.std.specs.Prelude.{filter}
-use Rattle.fsrm_model.specs.Tree.{is_folder}
+use Rattle.fsrm_model.specs.nodes.Tree.{is_folder}
 use Rattle.fsrm_engine.specs.Applying.{gets_one}
 use Rattle.fsrm_engine.specs.Walk.{AreThere}
 use Rattle.fsrm_engine.proofs.applied.EligibleFolders.{filter-append}

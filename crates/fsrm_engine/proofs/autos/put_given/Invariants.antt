@@ -1,6 +1,6 @@
 use Rattle.std.proofs.Common.{◌≡◌, ◌+◌, ◌≤◌, ◌++◌, ◌&&◌, take}
 use Rattle.std.specs.Prelude.{filter}
-use Rattle.fsrm_model.specs.Tree.{is_folder}
+use Rattle.fsrm_model.specs.nodes.Tree.{is_folder}
 use Rattle.fsrm_engine.specs.Applying.{gets_one}
 use Rattle.fsrm_engine.proofs.autos.put_given.Given as goal
 

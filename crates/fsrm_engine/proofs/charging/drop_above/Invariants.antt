@@ -1,6 +1,6 @@
 use Rattle.std.proofs.Common.{◌≡◌, ◌+◌, length}
 use Rattle.fsrm_base.specs.Numbers.{is_in}
-use Rattle.fsrm_model.specs.Tree.{chain, is_under}
+use Rattle.fsrm_model.specs.nodes.Tree.{chain, is_under}
 use Rattle.number_set.specs.Numbers.{Numbers}
 use Rattle.fsrm_engine.specs.Crossing.{Drops}
 use Rattle.fsrm_engine.proofs.charging.drop_above.Given as goal

@@ -1,9 +1,9 @@
 use Rattle.std.proofs.Common.{◌≡◌, ◌+◌, ◌&&◌, true, length}
 use Rattle.fsrm_base.specs.Keyed.{is_ascending}
 use Rattle.fsrm_base.specs.Numbers.{is_in}
-use Rattle.fsrm_model.specs.Limits.{most_quotas}
-use Rattle.fsrm_model.specs.Quota.{folder_of}
-use Rattle.fsrm_model.specs.Tree.{chain, is_under}
+use Rattle.fsrm_model.specs.values.Limits.{most_quotas}
+use Rattle.fsrm_model.specs.objects.Quota.{folder_of}
+use Rattle.fsrm_model.specs.nodes.Tree.{chain, is_under}
 use Rattle.number_set.specs.Numbers.{Numbers}
 use Rattle.fsrm_base.proofs.ChangedRows.{changed_rows}
 use Rattle.fsrm_engine.specs.Crossing.{is_crossing, Notes}

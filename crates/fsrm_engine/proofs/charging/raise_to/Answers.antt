@@ -1,7 +1,7 @@
 use Rattle.std.proofs.Common.{List, sym, ap, ◌∙◌}
 use Rattle.fsrm_base.proofs.Look.{found_has}
 use Rattle.fsrm_model.specs.declared.row.QuotaRow.{QuotaRow}
-use Rattle.fsrm_model.specs.Quota.{folder_of}
+use Rattle.fsrm_model.specs.objects.Quota.{folder_of}
 use Rattle.fsrm_engine.proofs.tables.RaiseLaws.{raise_high, raise_low, tables_as}
 use Rattle.fsrm_engine.proofs.charging.raise_to.Goals as goal
 

@@ -1,6 +1,6 @@
 use Rattle.std.proofs.Common.{◌≡◌, ◌+◌, List, [], ◌∷◌, ◌++◌, slice_get, Some, refl, ap, sym, ◌∙◌, subst}
 use Rattle.std.specs.Option.{option_copied}
-use Rattle.fsrm_model.specs.Runs.{last_entries}
+use Rattle.fsrm_model.specs.objects.Runs.{last_entries}
 use Rattle.fsrm_model.specs.declared.row.ActRow.{ActRow}
 use Rattle.thresholds.specs.Marked.{Marked}
 use Rattle.fsrm_engine.proofs.tables.FillLaws.{Kept, kept_next}

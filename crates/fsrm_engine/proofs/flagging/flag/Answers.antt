@@ -3,7 +3,7 @@ use Rattle.std.specs.Option.{option_copied}
 use Rattle.fsrm_base.specs.Keyed.{row_of}
 use Rattle.fsrm_base.proofs.Look.{found_has}
 use Rattle.fsrm_model.specs.declared.row.QuotaRow.{QuotaRow}
-use Rattle.fsrm_model.specs.Quota.{folder_of}
+use Rattle.fsrm_model.specs.objects.Quota.{folder_of}
 use Rattle.std.proofs.Common.{List}
 use Rattle.fsrm_engine.proofs.tables.FlagLaws.{flag_absent, flag_other, flag_rebuilding}
 use Rattle.fsrm_engine.proofs.flagging.flag.Goals as goal

@@ -1,8 +1,8 @@
 use Rattle.std.proofs.Common.{List, refl, ap, sym, ◌∙◌, subst, ◌+◌, arith}
 use Rattle.fsrm_model.specs.declared.row.QuotaRow.{QuotaRow}
 use Rattle.fsrm_base.specs.Keyed.{is_ascending}
-use Rattle.fsrm_model.specs.Lasting.{flagged_quota}
-use Rattle.fsrm_model.specs.Quota.{folder_of}
+use Rattle.fsrm_model.specs.store.Lasting.{flagged_quota}
+use Rattle.fsrm_model.specs.objects.Quota.{folder_of}
 use Rattle.fsrm_base.proofs.Order.{ascending-change}
 use Rattle.fsrm_objects.specs.Tables.{Tables}
 use Rattle.fsrm_engine.proofs.tables.RaiseLaws.{RaisedTo, changed_next, raised_none, raised_whole, tables_kept}

@@ -1,7 +1,7 @@
 use Rattle.std.proofs.Common.{◌≡◌, true}
 use Rattle.fsrm_base.specs.Keyed.{is_ascending}
-use Rattle.fsrm_model.specs.Lasting.{flagged_quota}
-use Rattle.fsrm_model.specs.Quota.{folder_of}
+use Rattle.fsrm_model.specs.store.Lasting.{flagged_quota}
+use Rattle.fsrm_model.specs.objects.Quota.{folder_of}
 use Rattle.fsrm_engine.proofs.tables.RaiseLaws.{RaisedTo}
 use Rattle.fsrm_engine.proofs.flagging.flag_all.Given as goal
 

@@ -1,5 +1,5 @@
 use Rattle.std.proofs.Common.{◌≡◌, fold, drop}
-use Rattle.fsrm_model.specs.ScreenWork.{with_last}
+use Rattle.fsrm_model.specs.commands.ScreenWork.{with_last}
 use Rattle.fsrm_engine.proofs.group_lists.add_numbers.Given as goal
 
 -- what is left is still to be added

@@ -1,5 +1,5 @@
 use Rattle.std.proofs.Common.{◌≡◌, length}
-use Rattle.fsrm_model.specs.ScreenWork.{may_be_taken}
+use Rattle.fsrm_model.specs.commands.ScreenWork.{may_be_taken}
 use Rattle.fsrm_engine.proofs.group_lists.may_be_taken.Given as goal
 
 abbrev pub invariant-loop-number : goal.invariant-loop-number

@@ -1,5 +1,5 @@
 use Rattle.std.proofs.Common.{◌≡◌, ◌++◌, drop}
-use Rattle.fsrm_model.specs.ScreenWork.{are_named, numbers_named}
+use Rattle.fsrm_model.specs.commands.ScreenWork.{are_named, numbers_named}
 use Rattle.fsrm_engine.proofs.group_lists.numbers_of.Given as goal
 
 -- the numbers so far, with those of the names that are left, are all

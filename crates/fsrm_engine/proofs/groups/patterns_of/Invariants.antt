@@ -1,6 +1,6 @@
 use Rattle.std.proofs.Common.{◌≡◌, ◌++◌, drop, true}
 use Rattle.std.specs.List.{list_all}
-use Rattle.fsrm_model.specs.Patterns.{is_pattern}
+use Rattle.fsrm_model.specs.values.Patterns.{is_pattern}
 use Rattle.fsrm_engine.proofs.groups.patterns_of.Given as goal
 
 abbrev pub invariant-loop-text : goal.invariant-loop-text

@@ -1,7 +1,7 @@
 use Rattle.std.proofs.Common.{◌≡◌, ◌+◌, ◌≤◌, ◌++◌, length}
 use Rattle.std.specs.Prelude.{map}
 use Rattle.std.specs.String.{string_bytes}
-use Rattle.fsrm_model.specs.Tree.{name_of}
+use Rattle.fsrm_model.specs.nodes.Tree.{name_of}
 use Rattle.fsrm_engine.proofs.walks.PathTexts.{slashed}
 use Rattle.fsrm_engine.proofs.path_text.joined.Given as goal
 

@@ -1,5 +1,5 @@
 use Rattle.std.proofs.Common.{◌≡◌, ◌+◌, ◌++◌, length}
-use Rattle.fsrm_model.specs.Tree.{chain}
+use Rattle.fsrm_model.specs.nodes.Tree.{chain}
 use Rattle.fsrm_engine.specs.Walk.{AreThere}
 use Rattle.fsrm_engine.proofs.walks.PathTexts.{named}
 use Rattle.fsrm_engine.proofs.path_text.named_nodes.Given as goal

@@ -4,9 +4,9 @@ use Rattle.std.specs.Borrow.{Bor}
 use Rattle.std.specs.Iterator.{YieldsFirstRef}
 use Rattle.fsrm_model.specs.declared.path.Names.{Names}
 use Rattle.std.specs.List.{list_all}
-use Rattle.fsrm_model.specs.Name.{is_name}
-use Rattle.fsrm_model.specs.PathNames.{left}
-use Rattle.fsrm_model.specs.Tree.{resolve}
+use Rattle.fsrm_model.specs.values.Name.{is_name}
+use Rattle.fsrm_model.specs.meaning.PathNames.{left}
+use Rattle.fsrm_model.specs.nodes.Tree.{resolve}
 use Rattle.fsrm_model.proofs.lines.Parts.{all_at}
 use Rattle.volume_tree.proofs.kept.WalkLaws.{name_at, some_at}
 use Rattle.fsrm_engine.proofs.steps.PlaceLaws.{place_found, has_resolved}

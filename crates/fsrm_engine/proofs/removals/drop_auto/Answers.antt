@@ -1,7 +1,7 @@
 use Rattle.std.proofs.Common.{List, ap, sym, ◌∙◌}
 use Rattle.fsrm_base.proofs.EditedRows.{without_absent}
 use Rattle.fsrm_model.specs.declared.row.AutoRow.{AutoRow}
-use Rattle.fsrm_model.specs.AutoApply.{auto_folder}
+use Rattle.fsrm_model.specs.objects.AutoApply.{auto_folder}
 use Rattle.fsrm_engine.proofs.operations.IdleLaws.{row_test}
 use Rattle.fsrm_engine.proofs.removals.drop_auto.Goals as goal
 

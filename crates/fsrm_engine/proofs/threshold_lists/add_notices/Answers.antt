@@ -1,7 +1,7 @@
 use Rattle.std.proofs.Common.{◌≡◌, Some, slice_get, refl, ap, ◌∙◌}
 use Rattle.std.proofs.lemmas.Option.{slice_get_read}
 use Rattle.fsrm_base.specs.Keyed.{is_ascending}
-use Rattle.fsrm_model.specs.Thresholds.{percent_of, with_notice}
+use Rattle.fsrm_model.specs.objects.Thresholds.{percent_of, with_notice}
 use Rattle.fsrm_engine.proofs.tables.ListLaws.{ascending_notice, one_more}
 use Rattle.fsrm_engine.proofs.threshold_lists.add_notices.Goals as goal
 

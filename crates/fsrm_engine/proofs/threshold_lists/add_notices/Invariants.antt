@@ -1,6 +1,6 @@
 use Rattle.std.proofs.Common.{◌≡◌, fold, take, true}
 use Rattle.fsrm_base.specs.Keyed.{is_ascending}
-use Rattle.fsrm_model.specs.Thresholds.{percent_of, with_notice}
+use Rattle.fsrm_model.specs.objects.Thresholds.{percent_of, with_notice}
 use Rattle.fsrm_engine.proofs.threshold_lists.add_notices.Given as goal
 
 -- the first of them were added

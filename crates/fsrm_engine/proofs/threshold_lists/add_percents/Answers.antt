@@ -1,7 +1,7 @@
 use Rattle.std.proofs.Common.{◌<◌, length, get_or, ap, ◌∙◌, arith}
 use Rattle.std.proofs.lemmas.Option.{slice_get-get_or}
 use Rattle.fsrm_base.specs.Keyed.{is_ascending}
-use Rattle.fsrm_model.specs.Thresholds.{percent_of, with_threshold}
+use Rattle.fsrm_model.specs.objects.Thresholds.{percent_of, with_threshold}
 use Rattle.fsrm_engine.proofs.tables.ListLaws.{ascending_threshold, one_more}
 use Rattle.fsrm_engine.proofs.threshold_lists.add_percents.Goals as goal
 

@@ -1,6 +1,6 @@
 use Rattle.std.proofs.Common.{ap, ◌∙◌}
 use Rattle.fsrm_base.specs.Keyed.{is_ascending}
-use Rattle.fsrm_model.specs.Thresholds.{percent_of}
+use Rattle.fsrm_model.specs.objects.Thresholds.{percent_of}
 use Rattle.fsrm_engine.proofs.tables.ListLaws.{ascending_kept, ascending_percents}
 use Rattle.fsrm_engine.proofs.threshold_lists.changed_thresholds.Goals as goal
 

@@ -1,5 +1,5 @@
 use Rattle.std.proofs.Common.{◌≡◌, take}
-use Rattle.fsrm_model.specs.Thresholds.{without_thresholds}
+use Rattle.fsrm_model.specs.objects.Thresholds.{without_thresholds}
 use Rattle.fsrm_engine.proofs.threshold_lists.without.Given as goal
 
 -- of the first of them those are kept that aren't removed

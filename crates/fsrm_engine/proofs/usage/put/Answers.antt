@@ -2,7 +2,7 @@ use Rattle.std.proofs.Common.{ℕ, ◌++◌, ◌∙◌, List, length, length-app
 use Rattle.std.proofs.lemmas.List.Elements.{filter-append}
 use Rattle.std.proofs.lemmas.List.Sums.{sum_by-append}
 use Rattle.std.specs.Prelude.{sum_by}
-use Rattle.fsrm_model.specs.Tree.{is_folder}
+use Rattle.fsrm_model.specs.nodes.Tree.{is_folder}
 use Rattle.rescan.specs.Visits.{folders_among, space_of}
 use Rattle.fsrm_engine.specs.Walk.{AreThere}
 use Rattle.fsrm_engine.proofs.walks.WalkLaws.{there-back, there-front}

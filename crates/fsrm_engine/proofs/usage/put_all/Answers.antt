@@ -3,7 +3,7 @@ use Rattle.std.proofs.lemmas.List.{take_more}
 use Rattle.std.proofs.lemmas.List.Elements.{filter-append}
 use Rattle.std.proofs.lemmas.List.Sums.{sum_by-append, sum_by-cons}
 use Rattle.std.specs.Prelude.{sum_by}
-use Rattle.fsrm_model.specs.Tree.{is_folder}
+use Rattle.fsrm_model.specs.nodes.Tree.{is_folder}
 use Rattle.rescan.specs.Visits.{folders_among, space_of}
 use Rattle.rescan.proofs.unvisited.EnterLaws.{front_small}
 use Rattle.fsrm_engine.proofs.applied.EligibleFolders.{there_at}

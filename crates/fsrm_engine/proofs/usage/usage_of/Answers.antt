@@ -1,5 +1,5 @@
 use Rattle.std.proofs.Common.{ℕ, ◌+◌, ◌≤◌, ◌*◌, ◌++◌, [], ◌∷◌, ◌∙◌, List, ap, arith}
-use Rattle.fsrm_model.specs.Limits.{longest_file}
+use Rattle.fsrm_model.specs.values.Limits.{longest_file}
 use Rattle.rescan.specs.Visits.{folders_among}
 use Rattle.fsrm_engine.proofs.coming.MemoryLaws.{on_err}
 use Rattle.fsrm_engine.proofs.walks.SumLaws.{begun, looks_at_visit, none_waits, some_wait, visited_fewer, visited_folders, visited_looks, visited_sum, visited_total, waits_below}

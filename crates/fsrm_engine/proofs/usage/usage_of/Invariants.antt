@@ -1,5 +1,5 @@
 use Rattle.std.proofs.Common.{◌≡◌, ◌+◌, ◌*◌, ◌≤◌, false, [], length}
-use Rattle.fsrm_model.specs.Tree.{is_folder, under, usage}
+use Rattle.fsrm_model.specs.nodes.Tree.{is_folder, under, usage}
 use Rattle.fsrm_engine.specs.Walk.{usage_of_all, under_all}
 use Rattle.fsrm_engine.proofs.walks.SumLaws.{AreFolders}
 use Rattle.fsrm_engine.proofs.usage.usage_of.Given as goal

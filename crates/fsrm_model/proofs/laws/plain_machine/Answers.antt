@@ -1,6 +1,6 @@
 use Rattle.std.proofs.Common.{ap, Some, None}
 use Rattle.std.specs.Prelude.{Err, Ok}
-use Rattle.fsrm_model.specs.Script.{Replied, without_cr}
+use Rattle.fsrm_model.specs.lines.Script.{Replied, without_cr}
 use Rattle.fsrm_model.proofs.commands.EachCommand.{lasting_kept, refused_or_exception, refused_leaves, sum_fresh}
 use Rattle.fsrm_model.proofs.lines.PlainMachine.{replied-read}
 use Rattle.fsrm_model.proofs.lines.SpellingLaws.{spelled_reads, skips_read}

@@ -1,6 +1,6 @@
 use Rattle.std.proofs.Common.{refl}
 use Rattle.std.specs.Prelude.{map, ◌++◌}
-use Rattle.fsrm_model.specs.Runs.{entry_of}
+use Rattle.fsrm_model.specs.objects.Runs.{entry_of}
 use Rattle.fsrm_model.proofs.thresholds.RunLaws.{action_run, reached_ran, few_entries, short_log, none_ran}
 use Rattle.fsrm_model.proofs.thresholds.SettleLaws.{own_runs}
 use Rattle.fsrm_model.proofs.laws.runs.Goals as goal

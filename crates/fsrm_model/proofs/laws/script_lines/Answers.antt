@@ -1,6 +1,6 @@
 use Rattle.std.proofs.Common.{ap, sym, ◌∙◌, List, ℕ, [], ◌∷◌, ◌++◌}
 use Rattle.std.proofs.lemmas.List.{append-nil}
-use Rattle.fsrm_model.specs.Script.{lines, spelled_lines}
+use Rattle.fsrm_model.specs.lines.Script.{lines, spelled_lines}
 use Rattle.fsrm_model.proofs.lines.ScriptLaws.{lines_spelled, lines_last}
 use Rattle.fsrm_model.proofs.laws.script_lines.Goals as goal
 

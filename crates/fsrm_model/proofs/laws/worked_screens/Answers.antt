@@ -6,8 +6,8 @@ use Rattle.std.specs.Fmt.{digits}
 use Rattle.ucd_case.specs.CaseFolding.{simple_folding}
 use Rattle.ucd_case.specs.SimpleFoldingRows.{simple_folding_rows}
 use Rattle.ucd_table.specs.Rows.{value_in}
-use Rattle.fsrm_model.specs.Line.{read_line}
-use Rattle.fsrm_model.specs.Script.{replied}
+use Rattle.fsrm_model.specs.lines.Line.{read_line}
+use Rattle.fsrm_model.specs.lines.Script.{replied}
 use Rattle.fsrm_model.proofs.laws.worked_screens.Goals as goal
 
 pub returns-clause-members : goal.returns-clause-members

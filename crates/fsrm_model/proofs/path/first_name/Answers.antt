@@ -1,6 +1,6 @@
 use Rattle.std.proofs.Common.{ℕ, ◌+◌, take, drop, ap, ◌∙◌, arith}
 use Rattle.std.specs.Prelude.{position}
-use Rattle.fsrm_model.specs.Reading.{is_backslash}
+use Rattle.fsrm_model.specs.lines.Reading.{is_backslash}
 use Rattle.fsrm_model.proofs.FirstNames.{first_of_more, first_of_last, place_is, no_place, may_cut}
 use Rattle.fsrm_model.proofs.path.first_name.Goals as goal
 

@@ -1,5 +1,5 @@
 use Rattle.std.proofs.Common.{ℕ, ◌≤◌, sym, subst}
-use Rattle.fsrm_model.specs.Limits.{longest_file}
+use Rattle.fsrm_model.specs.values.Limits.{longest_file}
 use Rattle.fsrm_model.proofs.valid.CapacityLaws.{rounded_most, rounded_shifted}
 use Rattle.fsrm_model.proofs.space.allocated.Goals as goal
 

@@ -5,7 +5,7 @@ use Rattle.std.specs.Option.{option_copied_mut}
 use Rattle.std.specs.Prelude.{slice_get, slice_set, IfErr}
 use Rattle.fsrm_base.specs.Places.{IsAt, IsGap}
 use Rattle.fsrm_base.proofs.SortedRows.{row_found, set_row}
-use Rattle.fsrm_model.specs.Thresholds.{percent_of}
+use Rattle.fsrm_model.specs.objects.Thresholds.{percent_of}
 use Rattle.fsrm_objects.specs.Tables.{run_threshold_at}
 use Rattle.fsrm_objects.proofs.RunRows.{has_actions, placed}
 use Rattle.fsrm_objects.proofs.runs.note_run.Goals as goal

@@ -1,7 +1,7 @@
 use Rattle.std.proofs.Common.{sym, ap, ◌∙◌}
 use Rattle.std.proofs.lemmas.List.Edits.{map_over_more}
 use Rattle.std.specs.Prelude.{slice_set}
-use Rattle.fsrm_model.specs.Templates.{without_source}
+use Rattle.fsrm_model.specs.objects.Templates.{without_source}
 use Rattle.fsrm_objects.proofs.sources.forget_source.Goals as goal
 
 pub loop-place-preserved : goal.loop-place-preserved

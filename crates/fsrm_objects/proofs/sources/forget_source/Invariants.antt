@@ -1,5 +1,5 @@
 use Rattle.std.proofs.Common.{◌≡◌, ◌++◌, drop, map, take}
-use Rattle.fsrm_model.specs.Templates.{without_source}
+use Rattle.fsrm_model.specs.objects.Templates.{without_source}
 use Rattle.fsrm_objects.proofs.sources.forget_source.Given as goal
 
 abbrev pub invariant-loop-place : goal.invariant-loop-place

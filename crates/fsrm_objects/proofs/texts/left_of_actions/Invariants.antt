@@ -1,5 +1,5 @@
 use Rattle.std.proofs.Common.{◌≡◌, ◌+◌, take}
-use Rattle.fsrm_model.specs.Texts.{action_bytes}
+use Rattle.fsrm_model.specs.values.Texts.{action_bytes}
 use Rattle.fsrm_objects.proofs.texts.left_of_actions.Given as goal
 
 abbrev pub invariant-loop-action : goal.invariant-loop-action

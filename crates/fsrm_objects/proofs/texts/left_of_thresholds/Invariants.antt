@@ -1,5 +1,5 @@
 use Rattle.std.proofs.Common.{◌≡◌, ◌+◌, take}
-use Rattle.fsrm_model.specs.Texts.{threshold_bytes}
+use Rattle.fsrm_model.specs.values.Texts.{threshold_bytes}
 use Rattle.fsrm_objects.proofs.texts.left_of_thresholds.Given as goal
 
 abbrev pub invariant-loop-threshold : goal.invariant-loop-threshold

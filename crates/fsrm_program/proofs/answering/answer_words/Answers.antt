@@ -1,6 +1,6 @@
 use Rattle.std.proofs.Common.{◌∙◌, sym, ap, arith}
 use Rattle.std.specs.Io.KnownBytes.{append_known}
-use Rattle.fsrm_model.specs.Line.{read_line}
+use Rattle.fsrm_model.specs.lines.Line.{read_line}
 use Rattle.fsrm_outside.proofs.Shown.{append_known-nil}
 use Rattle.reply_text.proofs.Sent.{sent}
 use Rattle.fsrm_program.proofs.Outcomes.{on_ok, always_ok, was_read, was_skipped, was_refused, rows_read, text_read, cost_read, rows_skipped, text_skipped, rows_refused, text_refused, bare_refusal, nothing_shown}

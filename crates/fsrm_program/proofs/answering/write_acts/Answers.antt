@@ -2,7 +2,7 @@ use Rattle.std.proofs.Common.{List, [], ◌∷◌, ◌++◌, length, refl, sym, 
 use Rattle.std.specs.Io.KnownBytes.{append_known}
 use Rattle.std.proofs.lemmas.Result.{err_from_is_err_and}
 use Rattle.fsrm_model.specs.declared.command.Act.{Act}
-use Rattle.fsrm_model.specs.ActText.{act_lines}
+use Rattle.fsrm_model.specs.texts.ActText.{act_lines}
 use Rattle.fsrm_engine.specs.Machine.{Machine}
 use Rattle.fsrm_outside.proofs.Shown.{append_known-nil}
 use Rattle.reply_text.proofs.Sent.{sends_front}

@@ -1,8 +1,8 @@
 use Rattle.std.proofs.Common.{◌≡◌, ◌+◌, ◌≤◌, List, ◌++◌, length}
 use Rattle.std.specs.Io.KnownBytes.{append_known}
 use Rattle.fsrm_model.specs.declared.command.Act.{Act}
-use Rattle.fsrm_model.specs.ActText.{act_lines}
-use Rattle.fsrm_model.specs.Cost.{acts_cost}
+use Rattle.fsrm_model.specs.texts.ActText.{act_lines}
+use Rattle.fsrm_model.specs.commands.Cost.{acts_cost}
 use Rattle.fsrm_program.proofs.answering.write_acts.Given as goal
 
 -- the acts that were handed out are written

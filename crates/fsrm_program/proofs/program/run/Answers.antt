@@ -1,5 +1,5 @@
 use Rattle.std.proofs.Common.{subst, Option, List, ℕ}
-use Rattle.fsrm_model.specs.Fresh.{default_capacity, new_rows}
+use Rattle.fsrm_model.specs.nodes.Fresh.{default_capacity, new_rows}
 use Rattle.fsrm_program.specs.declared.status.Status.TheVariants.{Usage}
 use Rattle.fsrm_program.specs.Bytes.{TakenMost}
 use Rattle.fsrm_program.specs.Answers.{most_taken}

@@ -1,5 +1,5 @@
 use Rattle.std.proofs.Common.{◌≡◌, ◌-◌, ◌+◌, ◌≤◌, []}
-use Rattle.fsrm_model.specs.Limits.{longest_script}
+use Rattle.fsrm_model.specs.values.Limits.{longest_script}
 use Rattle.fsrm_program.specs.Progress.{Takes}
 use Rattle.fsrm_program.specs.Held.{state_of}
 use Rattle.fsrm_program.proofs.replay.read_all.Given as goal

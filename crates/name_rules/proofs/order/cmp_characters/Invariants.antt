@@ -1,7 +1,7 @@
 use Rattle.std.proofs.Common.{◌≡◌}
 use Rattle.std.specs.Str.{IsUtf8}
 use Rattle.std.specs.Str.Iter.{chars_rest}
-use Rattle.fsrm_model.specs.Name.{name_cmp}
+use Rattle.fsrm_model.specs.values.Name.{name_cmp}
 use Rattle.name_rules.proofs.order.cmp_characters.Given as goal
 
 abbrev pub invariant-loop-one : goal.invariant-loop-one

@@ -2,7 +2,7 @@ use Rattle.std.proofs.Common.{drop, ap, sym, ◌∙◌}
 use Rattle.std.specs.Ordering.{nat_cmp}
 use Rattle.std.specs.Char.{to_ascii_lowercase}
 use Rattle.fsrm_base.proofs.TestLaws.{both}
-use Rattle.fsrm_model.specs.Name.{name_cmp}
+use Rattle.fsrm_model.specs.values.Name.{name_cmp}
 use Rattle.name_rules.specs.Fronts.{HasSameFront}
 use Rattle.name_rules.proofs.Fronts.{name_cmp_past_front, may_cut, may_cut_other, both_end, one_ends, other_ends, they_part}
 use Rattle.name_rules.proofs.order.fold_cmp.Goals as goal

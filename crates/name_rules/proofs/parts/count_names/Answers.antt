@@ -1,8 +1,8 @@
 use Rattle.std.proofs.Common.{◌≡◌, suc, ◌+◌, ◌&&◌, length, drop, arith, ap, subst, sym, ◌∙◌}
 use Rattle.std.specs.List.{list_all}
 use Rattle.std.proofs.lemmas.List.{take_rest}
-use Rattle.fsrm_model.specs.Name.{is_name}
-use Rattle.fsrm_model.specs.PathNames.{parts_of}
+use Rattle.fsrm_model.specs.values.Name.{is_name}
+use Rattle.fsrm_model.specs.meaning.PathNames.{parts_of}
 use Rattle.name_rules.specs.Parts.{IsFirstName}
 use Rattle.name_rules.proofs.Taken.{parts_after}
 use Rattle.name_rules.proofs.parts.count_names.Goals as goal

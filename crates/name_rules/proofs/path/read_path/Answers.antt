@@ -1,5 +1,5 @@
 use Rattle.std.proofs.Common.{◌≡◌, drop, ap, ◌∙◌}
-use Rattle.fsrm_model.specs.PathNames.{parts_of}
+use Rattle.fsrm_model.specs.meaning.PathNames.{parts_of}
 use Rattle.name_rules.proofs.Names.{path_read}
 use Rattle.name_rules.proofs.path.read_path.Goals as goal
 

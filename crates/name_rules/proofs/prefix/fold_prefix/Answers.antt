@@ -1,7 +1,7 @@
 use Rattle.std.proofs.Common.{◌≡◌, ℕ, suc, ◌+◌, ◌-◌, ◌*◌, ◌^◌, ◌<◌, ◌∙◌, List, drop, get_or, length, min, sym, ap, subst, arith, ltb-true}
 use Rattle.std.specs.Char.{to_ascii_lowercase}
 use Rattle.std.proofs.lemmas.Str.Ascii.{lowercase_ascii}
-use Rattle.fsrm_model.specs.Name.{folded}
+use Rattle.fsrm_model.specs.values.Name.{folded}
 use Rattle.name_rules.specs.Prefix.{number_of, prefix}
 use Rattle.name_rules.specs.declared.prefix.TheConstants.{LOWER}
 use Rattle.name_rules.proofs.LowerBytes.{lower_byte}

@@ -4,7 +4,7 @@ use Rattle.std.specs.Str.Iter.{chars_rest}
 use Rattle.std.proofs.lemmas.List.{nil_from_length}
 use Rattle.std.proofs.lemmas.Str.{IsUtf8-past_char, chars-nil, chars_past_char}
 use Rattle.ucd_case.specs.CaseFolding.{simple_fold}
-use Rattle.fsrm_model.specs.Name.{folded}
+use Rattle.fsrm_model.specs.values.Name.{folded}
 use Rattle.name_rules.proofs.prefix.next_folded.Goals as goal
 
 -- nothing is left after the last character

@@ -1,7 +1,7 @@
 use Rattle.std.proofs.Common.{◌≡◌, ℕ, suc, ◌+◌, ◌-◌, ◌*◌, ◌^◌, ◌<◌, ◌≤◌, ◌∙◌, List, drop, get_or, min, nat_lt, sym, ap, subst, arith}
 use Rattle.std.specs.Prelude.{if◌then◌else◌}
 use Rattle.std.specs.Str.Iter.{chars_rest}
-use Rattle.fsrm_model.specs.Name.{folded}
+use Rattle.fsrm_model.specs.values.Name.{folded}
 use Rattle.name_rules.specs.Prefix.{number_of}
 use Rattle.name_rules.proofs.PrefixLaws.{carried, carried_small, digits_fit, next_digit, next_small, to_come}
 use Rattle.name_rules.proofs.prefix.prefix_of_characters.Goals as goal

@@ -1,7 +1,7 @@
 use Rattle.std.proofs.Common.{◌≡◌, ◌+◌, ◌-◌, ◌*◌, ◌^◌, ◌<◌, ◌≤◌}
 use Rattle.std.specs.Str.{IsUtf8}
 use Rattle.std.specs.Str.Iter.{chars_rest}
-use Rattle.fsrm_model.specs.Name.{folded}
+use Rattle.fsrm_model.specs.values.Name.{folded}
 use Rattle.name_rules.specs.Prefix.{number_of, prefix}
 use Rattle.name_rules.proofs.PrefixLaws.{to_come}
 use Rattle.name_rules.proofs.prefix.prefix_of_characters.Given as goal

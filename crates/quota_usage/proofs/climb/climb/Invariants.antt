@@ -1,5 +1,5 @@
 use Rattle.std.proofs.Common.{◌≡◌, ◌+◌, length}
-use Rattle.fsrm_model.specs.Tree.{chain}
+use Rattle.fsrm_model.specs.nodes.Tree.{chain}
 use Rattle.fsrm_base.proofs.ChangedRows.{changed_rows}
 use Rattle.quota_usage.specs.Climb.{amended_counter}
 use Rattle.quota_usage.proofs.ClimbLaws.{FitAll}

@@ -1,5 +1,5 @@
 use Rattle.std.proofs.Common.{◌≡◌, ◌+◌, length}
-use Rattle.fsrm_model.specs.Tree.{chain}
+use Rattle.fsrm_model.specs.nodes.Tree.{chain}
 use Rattle.quota_usage.proofs.climb.height.Given as goal
 
 abbrev pub invariant-loop-at : goal.invariant-loop-at

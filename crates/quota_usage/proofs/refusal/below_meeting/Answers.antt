@@ -1,5 +1,5 @@
 use Rattle.std.proofs.Common.{◌≡◌, ◌<◌, ◌≤◌, true, length, sym, ◌∙◌, subst, arith}
-use Rattle.fsrm_model.specs.Tree.{chain, is_under}
+use Rattle.fsrm_model.specs.nodes.Tree.{chain, is_under}
 use Rattle.fsrm_model.proofs.nodes.Climbs.{under_own}
 use Rattle.fsrm_base.proofs.TestLaws.{clash}
 use Rattle.quota_usage.specs.Climb.{moved_refusal}

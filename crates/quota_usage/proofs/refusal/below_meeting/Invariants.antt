@@ -1,6 +1,6 @@
 use Rattle.std.proofs.Common.{◌≡◌, ℕ, ◌+◌, ◌*◌, ◌≤◌, length, true, false, None}
 use Rattle.fsrm_base.specs.Keyed.{has_row}
-use Rattle.fsrm_model.specs.Tree.{number, chain, is_under}
+use Rattle.fsrm_model.specs.nodes.Tree.{number, chain, is_under}
 use Rattle.quota_usage.specs.Climb.{moved_refusal}
 use Rattle.quota_usage.proofs.refusal.below_meeting.Given as goal
 

@@ -1,5 +1,5 @@
 use Rattle.std.proofs.Common.{◌≡◌, ◌+◌, length}
-use Rattle.fsrm_model.specs.Tree.{chain}
+use Rattle.fsrm_model.specs.nodes.Tree.{chain}
 use Rattle.quota_usage.specs.Climb.{refusal_of}
 use Rattle.quota_usage.proofs.ClimbLaws.{FitAll, first_in}
 use Rattle.quota_usage.proofs.refusal.first_refusal.Given as goal

@@ -1,5 +1,5 @@
 use Rattle.std.proofs.Common.{◌∙◌, ap, rules, SFits, to_z-of_z, w32}
-use Rattle.fsrm_model.specs.ActionWords.{minutes_word}
+use Rattle.fsrm_model.specs.texts.ActionWords.{minutes_word}
 use Rattle.reply_text.specs.Parts.{part_text}
 use Rattle.reply_text.proofs.ActionLines.{action_shown}
 use Rattle.reply_text.proofs.Sent.{sent}

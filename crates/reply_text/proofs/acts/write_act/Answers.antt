@@ -1,8 +1,8 @@
 use Rattle.std.proofs.Common.{◌∙◌, ap, arith}
 use Rattle.fsrm_base.specs.Keyed.{has_row}
-use Rattle.fsrm_model.specs.Cost.{path_cost}
-use Rattle.fsrm_model.specs.Printed.{path_text}
-use Rattle.fsrm_model.specs.Tree.{number}
+use Rattle.fsrm_model.specs.commands.Cost.{path_cost}
+use Rattle.fsrm_model.specs.texts.Printed.{path_text}
+use Rattle.fsrm_model.specs.nodes.Tree.{number}
 use Rattle.reply_text.proofs.ActLines.{act_node, act_same}
 use Rattle.reply_text.proofs.Sent.{sent}
 use Rattle.reply_text.proofs.acts.write_act.Goals as goal

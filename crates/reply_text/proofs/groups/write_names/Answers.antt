@@ -2,7 +2,7 @@ use Rattle.std.proofs.Common.{◌≡◌, ℕ, List, ◌∙◌, subst}
 use Rattle.std.proofs.lemmas.Option.{slice_get-get_or}
 use Rattle.std.specs.Io.KnownBytes.{append_known}
 use Rattle.fsrm_base.specs.Keyed.{has_row}
-use Rattle.fsrm_model.specs.Patterns.{group_number}
+use Rattle.fsrm_model.specs.values.Patterns.{group_number}
 use Rattle.fsrm_outside.specs.Shown.{ShowsFront}
 use Rattle.reply_text.specs.Lines.{named_text}
 use Rattle.reply_text.proofs.ActLines.{all_at}

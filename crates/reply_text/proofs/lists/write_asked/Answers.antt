@@ -2,9 +2,9 @@ use Rattle.std.proofs.Common.{◌≡◌, ◌∙◌, sym, ap, arith}
 use Rattle.std.specs.Prelude.{Some, None}
 use Rattle.fsrm_model.specs.declared.command.Ask.TheVariants.{Quotas}
 use Rattle.fsrm_model.specs.declared.command.Outcome.TheVariants.{Listing}
-use Rattle.fsrm_model.specs.Cost.{list_cost}
-use Rattle.fsrm_model.specs.Named.{IsNamed}
-use Rattle.fsrm_model.specs.Text.{list_lines}
+use Rattle.fsrm_model.specs.commands.Cost.{list_cost}
+use Rattle.fsrm_model.specs.meaning.Named.{IsNamed}
+use Rattle.fsrm_model.specs.texts.Text.{list_lines}
 use Rattle.reply_text.proofs.Sent.{sent}
 use Rattle.reply_text.proofs.Quotas.{lent_found, lent_row, own_row, all_lines, one_line, one_cost}
 use Rattle.reply_text.proofs.lists.write_asked.Goals as goal

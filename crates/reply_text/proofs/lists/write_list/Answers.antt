@@ -1,6 +1,6 @@
 use Rattle.std.proofs.Common.{◌∙◌, ap, sym}
-use Rattle.fsrm_model.specs.Text.{list_lines}
-use Rattle.fsrm_model.specs.Valid.{are_entries}
+use Rattle.fsrm_model.specs.texts.Text.{list_lines}
+use Rattle.fsrm_model.specs.store.Valid.{are_entries}
 use Rattle.reply_text.proofs.ActLines.{all_entries}
 use Rattle.reply_text.proofs.Sent.{sent}
 use Rattle.reply_text.proofs.lists.write_list.Goals as goal

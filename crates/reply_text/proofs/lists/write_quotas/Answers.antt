@@ -2,8 +2,8 @@ use Rattle.std.proofs.Common.{◌+◌, sym, ◌∙◌, arith}
 use Rattle.std.proofs.lemmas.Result.{err_from_is_err_and}
 use Rattle.std.proofs.lemmas.List.Sums.{sum_by-take-le}
 use Rattle.fsrm_model.specs.declared.row.QuotaRow.{QuotaRow}
-use Rattle.fsrm_model.specs.Cost.{path_cost}
-use Rattle.fsrm_model.specs.Quota.{folder_of}
+use Rattle.fsrm_model.specs.commands.Cost.{path_cost}
+use Rattle.fsrm_model.specs.objects.Quota.{folder_of}
 use Rattle.reply_text.specs.Lines.{lines_text}
 use Rattle.reply_text.proofs.Each.{shows_one, shows_one_front}
 use Rattle.reply_text.proofs.Sent.{sends_front}

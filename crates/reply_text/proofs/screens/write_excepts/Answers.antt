@@ -2,8 +2,8 @@ use Rattle.std.proofs.Common.{◌+◌, List, length, sym, ap, subst, ◌∙◌, 
 use Rattle.std.proofs.lemmas.Result.{err_from_is_err_and}
 use Rattle.std.proofs.lemmas.List.Sums.{sum_by-take-le}
 use Rattle.fsrm_model.specs.declared.row.ExceptRow.{ExceptRow}
-use Rattle.fsrm_model.specs.Cost.{path_cost}
-use Rattle.fsrm_model.specs.Screens.{except_folder}
+use Rattle.fsrm_model.specs.commands.Cost.{path_cost}
+use Rattle.fsrm_model.specs.objects.Screens.{except_folder}
 use Rattle.fsrm_outside.specs.Shown.{ShowsFront}
 use Rattle.reply_text.specs.Lines.{except_text}
 use Rattle.reply_text.proofs.Each.{shows_all, shows_one, shows_one_front}

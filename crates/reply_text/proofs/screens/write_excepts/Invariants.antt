@@ -1,7 +1,7 @@
 use Rattle.std.proofs.Common.{◌≡◌, ◌+◌, ◌≤◌, take}
 use Rattle.std.specs.Prelude.{flat_map, sum_by}
 use Rattle.std.specs.Io.KnownBytes.{append_known}
-use Rattle.fsrm_model.specs.Cost.{path_cost}
+use Rattle.fsrm_model.specs.commands.Cost.{path_cost}
 use Rattle.reply_text.specs.Lines.{except_text}
 use Rattle.reply_text.proofs.screens.write_excepts.Given as goal
 

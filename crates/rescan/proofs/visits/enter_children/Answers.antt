@@ -1,8 +1,8 @@
 use Rattle.std.proofs.Common.{◌≡◌, ℕ, ◌+◌, ◌++◌, ◌∙◌, List, [], length, length-append, append_assoc, arith, refl, sym, ap}
 use Rattle.std.proofs.lemmas.List.{append-nil}
 use Rattle.std.specs.Prelude.{map}
-use Rattle.fsrm_model.specs.Capacities.{is_capacity}
-use Rattle.fsrm_model.specs.Tree.{number, children_in_order}
+use Rattle.fsrm_model.specs.store.Capacities.{is_capacity}
+use Rattle.fsrm_model.specs.nodes.Tree.{number, children_in_order}
 use Rattle.volume_tree.proofs.ordering.Children.{numbers_many}
 use Rattle.number_set.specs.Numbers.{Numbers}
 use Rattle.rescan.proofs.unvisited.EnterLaws.{Entered, none_entered, more_entered, all_entered, part_small, part_there}

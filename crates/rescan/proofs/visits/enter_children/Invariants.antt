@@ -1,5 +1,5 @@
 use Rattle.std.proofs.Common.{◌≡◌, ◌+◌, ◌*◌, ◌≤◌, ◌++◌, ℕ, List, length, map}
-use Rattle.fsrm_model.specs.Tree.{number, children, children_in_order}
+use Rattle.fsrm_model.specs.nodes.Tree.{number, children, children_in_order}
 use Rattle.rescan.proofs.unvisited.EnterLaws.{Entered}
 use Rattle.rescan.proofs.visits.enter_children.Given as goal
 

@@ -3,7 +3,7 @@ use Rattle.std.proofs.lemmas.List.{take_more, take_all}
 use Rattle.fsrm_base.proofs.Look.{has_found}
 use Rattle.fsrm_base.proofs.TestLaws.{lt_is}
 use Rattle.fsrm_base.specs.Keyed.{has_row}
-use Rattle.fsrm_model.specs.Tree.{number}
+use Rattle.fsrm_model.specs.nodes.Tree.{number}
 use Rattle.volume_tree.specs.Volume.{Shows}
 use Rattle.number_set.specs.Numbers.{Numbers}
 use Rattle.rescan.proofs.unvisited.EnterLaws.{Entered, more_entered, folder_entered, file_entered, front_small}

@@ -2,8 +2,8 @@ use Rattle.std.proofs.Common.{◌≡◌, ◌+◌, ◌≤◌, nat_lt, List, subst
 use Rattle.std.specs.Prelude.{map}
 use Rattle.std.proofs.lemmas.List.{take_all}
 use Rattle.fsrm_model.specs.declared.row.QuotaRow.{QuotaRow}
-use Rattle.fsrm_model.specs.Templates.{updated}
-use Rattle.fsrm_model.specs.Texts.{quota_bytes, template_bytes, threshold_bytes}
+use Rattle.fsrm_model.specs.objects.Templates.{updated}
+use Rattle.fsrm_model.specs.values.Texts.{quota_bytes, template_bytes, threshold_bytes}
 use Rattle.fsrm_objects.specs.Tables.{quota_texts}
 use Rattle.templates.proofs.PartLaws.{template_fits, thresholds_fit}
 use Rattle.templates.proofs.UpdateLaws.{longer_by, other_bytes, quota_small, reached_bytes, texts_next, updated_next}

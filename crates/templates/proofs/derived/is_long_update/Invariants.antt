@@ -1,7 +1,7 @@
 use Rattle.std.proofs.Common.{◌≡◌, ◌+◌, ◌*◌, ◌≤◌, take}
 use Rattle.std.specs.Prelude.{map}
-use Rattle.fsrm_model.specs.Templates.{updated}
-use Rattle.fsrm_model.specs.Texts.{template_bytes}
+use Rattle.fsrm_model.specs.objects.Templates.{updated}
+use Rattle.fsrm_model.specs.values.Texts.{template_bytes}
 use Rattle.fsrm_objects.specs.Tables.{quota_texts}
 use Rattle.templates.proofs.derived.is_long_update.Given as goal
 

@@ -5,7 +5,7 @@ use Rattle.std.specs.Prelude.{fold, map}
 use Rattle.fsrm_base.specs.Keyed.{has_row}
 use Rattle.fsrm_base.proofs.SortedRows.{there}
 use Rattle.fsrm_model.specs.declared.row.QuotaRow.{QuotaRow}
-use Rattle.fsrm_model.specs.Quota.{folder_of}
+use Rattle.fsrm_model.specs.objects.Quota.{folder_of}
 use Rattle.fsrm_objects.specs.Tables.{Tables}
 use Rattle.templates.specs.Held.{is_small, with_replaced}
 use Rattle.templates.proofs.SwapLaws.{half_more, held_at, its, still_there}

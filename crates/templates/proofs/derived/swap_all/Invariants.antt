@@ -1,7 +1,7 @@
 use Rattle.std.proofs.Common.{◌≡◌, ◌++◌, take, drop, Some}
 use Rattle.std.specs.Prelude.{fold, map}
 use Rattle.fsrm_base.specs.Keyed.{row_of}
-use Rattle.fsrm_model.specs.Quota.{folder_of}
+use Rattle.fsrm_model.specs.objects.Quota.{folder_of}
 use Rattle.templates.specs.Held.{with_replaced}
 use Rattle.templates.proofs.derived.swap_all.Given as goal
 

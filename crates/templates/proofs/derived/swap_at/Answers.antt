@@ -5,7 +5,7 @@ use Rattle.std.specs.Option.{option_copied_mut}
 use Rattle.std.specs.Prelude.{OnOk, map, slice_set}
 use Rattle.fsrm_base.specs.Keyed.{row_of}
 use Rattle.fsrm_model.specs.declared.row.QuotaRow.{QuotaRow}
-use Rattle.fsrm_model.specs.Quota.{folder_of}
+use Rattle.fsrm_model.specs.objects.Quota.{folder_of}
 use Rattle.fsrm_objects.specs.declared.answer.ObjectFault.{ObjectFault}
 use Rattle.templates.proofs.UpdateLaws.{may_put}
 use Rattle.templates.proofs.derived.swap_at.Goals as goal

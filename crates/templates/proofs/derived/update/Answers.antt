@@ -4,8 +4,8 @@ use Rattle.std.specs.Prelude.{filter, fold, map}
 use Rattle.fsrm_base.specs.Keyed.{has_row, is_ascending}
 use Rattle.fsrm_base.proofs.Order.{ascending-filter, ascending-map}
 use Rattle.fsrm_model.specs.declared.row.QuotaRow.{QuotaRow}
-use Rattle.fsrm_model.specs.Quota.{folder_of}
-use Rattle.fsrm_model.specs.Templates.{as_template, is_reached}
+use Rattle.fsrm_model.specs.objects.Quota.{folder_of}
+use Rattle.fsrm_model.specs.objects.Templates.{as_template, is_reached}
 use Rattle.templates.specs.Held.{is_small, with_replaced}
 use Rattle.templates.proofs.SwapLaws.{its, replaced_are, same_rows}
 use Rattle.templates.proofs.UpdateLaws.{made_small, made_there, put_back, with_quotas}

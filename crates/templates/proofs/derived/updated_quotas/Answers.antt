@@ -2,7 +2,7 @@ use Rattle.std.proofs.Common.{List, ◌++◌, ◌∷◌, [], sym, ◌∙◌, ap,
 use Rattle.std.proofs.lemmas.List.{map-append}
 use Rattle.std.specs.Prelude.{filter, map}
 use Rattle.fsrm_model.specs.declared.row.QuotaRow.{QuotaRow}
-use Rattle.fsrm_model.specs.Templates.{as_template, is_reached}
+use Rattle.fsrm_model.specs.objects.Templates.{as_template, is_reached}
 use Rattle.templates.proofs.UpdateLaws.{reached_none, reached_one}
 use Rattle.templates.proofs.derived.updated_quotas.Goals.{then-is_reached+in_ok-as_template+in_ok-push, else-is_reached}
 use Rattle.templates.proofs.derived.updated_quotas.Goals as goal

@@ -1,6 +1,6 @@
 use Rattle.std.proofs.Common.{◌≡◌, drop}
 use Rattle.std.specs.Cmp.Lexicographic.{pointwise}
-use Rattle.fsrm_model.specs.Templates.{same_threshold}
+use Rattle.fsrm_model.specs.objects.Templates.{same_threshold}
 use Rattle.templates.proofs.matching.same_thresholds.Given as goal
 
 abbrev pub invariant-loop-place : goal.invariant-loop-place

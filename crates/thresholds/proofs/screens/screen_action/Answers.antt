@@ -1,5 +1,5 @@
 use Rattle.fsrm_base.proofs.Look.{found_has}
-use Rattle.fsrm_model.specs.Screens.{screen_folder}
+use Rattle.fsrm_model.specs.objects.Screens.{screen_folder}
 use Rattle.thresholds.proofs.ScreenLaws.{found_action}
 use Rattle.thresholds.proofs.screens.screen_action.Goals as goal
 

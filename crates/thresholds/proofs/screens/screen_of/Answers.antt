@@ -1,6 +1,6 @@
 use Rattle.std.proofs.Common.{◌∙◌}
 use Rattle.fsrm_base.proofs.SortedRows.{has_lent}
-use Rattle.fsrm_model.specs.Screens.{screen_folder}
+use Rattle.fsrm_model.specs.objects.Screens.{screen_folder}
 use Rattle.thresholds.proofs.screens.screen_of.Goals as goal
 
 pub unwrap-requires : goal.unwrap-requires

@@ -3,7 +3,7 @@ use Rattle.std.proofs.lemmas.Iterator.{YieldsList-from_slice}
 use Rattle.std.proofs.lemmas.Iterator.Search.{find_from_yields_List}
 use Rattle.std.specs.Str.{str_eq_ignore_ascii_case}
 use Rattle.fsrm_model.specs.declared.row.ActionKind.TheVariants.{Event, Mail, Program, Report}
-use Rattle.fsrm_model.specs.ActionWords.{kind_word}
+use Rattle.fsrm_model.specs.texts.ActionWords.{kind_word}
 use Rattle.tool_commands.proofs.actions.kind_named.Goals as goal
 
 pub returns : goal.returns

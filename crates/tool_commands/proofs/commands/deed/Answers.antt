@@ -3,10 +3,10 @@ use Rattle.std.specs.Prelude.{codes, map}
 use Rattle.std.specs.Str.{str_eq_ignore_ascii_case}
 use Rattle.fsrm_model.specs.declared.command.Deed.{Deed}
 use Rattle.fsrm_model.specs.declared.command.Refusal.TheVariants.{BadLine}
-use Rattle.fsrm_model.specs.Line.{Reader, readers, tool_reader, tool_words}
-use Rattle.fsrm_model.specs.Reading.{Read, ◌>>=◌, known}
-use Rattle.fsrm_model.specs.Tools.{Names, ToolCommand, named, tools}
-use Rattle.fsrm_model.specs.Words.{Word}
+use Rattle.fsrm_model.specs.lines.Line.{Reader, readers, tool_reader, tool_words}
+use Rattle.fsrm_model.specs.lines.Reading.{Read, ◌>>=◌, known}
+use Rattle.fsrm_model.specs.lines.Tools.{Names, ToolCommand, named, tools}
+use Rattle.fsrm_model.specs.lines.Words.{Word}
 use Rattle.tool_commands.specs.LineFaults.{ReadsWords, at_moment}
 use Rattle.tool_commands.specs.Taking.{left, end, lent_word, named_by}
 use Rattle.tool_commands.proofs.commands.deed.Goals as goal

@@ -1,4 +1,4 @@
-use Rattle.fsrm_model.specs.Line.{readers}
+use Rattle.fsrm_model.specs.lines.Line.{readers}
 use Rattle.tool_commands.specs.LineFaults.{ReadsWords, at_moment}
 use Rattle.tool_commands.specs.Taking.{left, end, line_word, named_by}
 use Rattle.tool_commands.proofs.NamedWords.{named_read}

@@ -1,8 +1,8 @@
 use Rattle.std.proofs.Common.{rules, ◌≡◌, sym, ◌∙◌}
 use Rattle.fsrm_model.specs.declared.command.Refusal.TheVariants.{BadLine}
-use Rattle.fsrm_model.specs.ValueForms.{path_of, text_of}
-use Rattle.fsrm_model.specs.Options.{path_key, add_filegroup_key}
-use Rattle.fsrm_model.specs.Tools.{except_add}
+use Rattle.fsrm_model.specs.lines.ValueForms.{path_of, text_of}
+use Rattle.fsrm_model.specs.lines.Options.{path_key, add_filegroup_key}
+use Rattle.fsrm_model.specs.lines.Tools.{except_add}
 use Rattle.tool_commands.specs.declared.reading.LineFault.TheVariants.{Refused}
 use Rattle.tool_commands.specs.Taking.{left, end}
 use Rattle.tool_commands.proofs.NeededOptions.{missing, needs_none, needs_some, none_given, some_given}

@@ -1,7 +1,7 @@
 use Rattle.std.proofs.Common.{rules, ◌≡◌, ℕ, List, Ok, Err, Some, None, ap, subst, arith}
 use Rattle.std.specs.List.{after_first}
 use Rattle.std.proofs.lemmas.Str.Pattern.{split_once_first}
-use Rattle.fsrm_model.specs.Options.{word_key, key_named, is_colon}
+use Rattle.fsrm_model.specs.lines.Options.{word_key, key_named, is_colon}
 use Rattle.tool_commands.specs.Taking.{line_word}
 use Rattle.tool_commands.proofs.OptionLaws.{no_key, key_before, word_without, word_added, word_other, word_faulty}
 use Rattle.tool_commands.proofs.options.add_word.Goals as goal

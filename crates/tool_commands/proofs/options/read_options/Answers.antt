@@ -1,5 +1,5 @@
 use Rattle.std.proofs.Common.{Ok, Option, [], ◌∙◌, subst}
-use Rattle.fsrm_model.specs.Options.{options}
+use Rattle.fsrm_model.specs.lines.Options.{options}
 use Rattle.tool_commands.specs.declared.words.Word.{Word}
 use Rattle.tool_commands.specs.Taking.{left, line_word, TakesLeft}
 use Rattle.tool_commands.proofs.OptionLaws.{words_more}

@@ -1,6 +1,6 @@
 use Rattle.std.proofs.Common.{◌≡◌, length}
 use Rattle.std.specs.Prelude.{List, []}
-use Rattle.fsrm_model.specs.Options.{Given, options}
+use Rattle.fsrm_model.specs.lines.Options.{Given, options}
 use Rattle.tool_commands.specs.Taking.{left, end}
 use Rattle.tool_commands.proofs.options.read_options.Given as goal
 

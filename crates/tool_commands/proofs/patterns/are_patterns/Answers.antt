@@ -1,7 +1,7 @@
 use Rattle.std.proofs.Common.{rules, tests, lit<}
 use Rattle.std.proofs.lemmas.Iterator.Search.{all_from_yields_List}
 use Rattle.std.proofs.lemmas.Iterator.Splits.{YieldsList-from_str_split}
-use Rattle.fsrm_model.specs.Patterns.{is_pattern}
+use Rattle.fsrm_model.specs.values.Patterns.{is_pattern}
 use Rattle.tool_commands.proofs.patterns.are_patterns.Goals as goal
 
 pub returns : goal.returns

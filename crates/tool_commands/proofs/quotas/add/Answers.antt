@@ -1,9 +1,9 @@
 use Rattle.std.proofs.Common.{◌≡◌, true, sym, ◌∙◌, ap, refl}
 use Rattle.std.proofs.lemmas.Result.{err_from_is_err_and}
 use Rattle.fsrm_base.proofs.TestLaws.{or_later}
-use Rattle.fsrm_model.specs.ValueForms.{path_of}
-use Rattle.fsrm_model.specs.Options.{path_key}
-use Rattle.fsrm_model.specs.Tools.{quota_add}
+use Rattle.fsrm_model.specs.lines.ValueForms.{path_of}
+use Rattle.fsrm_model.specs.lines.Options.{path_key}
+use Rattle.fsrm_model.specs.lines.Tools.{quota_add}
 use Rattle.tool_commands.specs.Taking.{left, end}
 use Rattle.std.specs.Prelude.{is_some, ◌||◌}
 use Rattle.tool_commands.proofs.NeededOptions.{lacking, quota_read}

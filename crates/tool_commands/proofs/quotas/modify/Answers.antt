@@ -1,8 +1,8 @@
 use Rattle.std.proofs.Common.{refl}
 use Rattle.std.proofs.lemmas.Result.{err_from_is_err_and}
-use Rattle.fsrm_model.specs.ValueForms.{path_of}
-use Rattle.fsrm_model.specs.Options.{path_key}
-use Rattle.fsrm_model.specs.Tools.{quota_modify}
+use Rattle.fsrm_model.specs.lines.ValueForms.{path_of}
+use Rattle.fsrm_model.specs.lines.Options.{path_key}
+use Rattle.fsrm_model.specs.lines.Tools.{quota_modify}
 use Rattle.tool_commands.specs.Taking.{left, end}
 use Rattle.tool_commands.proofs.NeededOptions.{lacking}
 use Rattle.tool_commands.proofs.quotas.modify.Goals as goal

@@ -1,6 +1,6 @@
 use Rattle.std.proofs.Common.{Err, sym, ap, ◌∙◌, subst}
 use Rattle.std.proofs.lemmas.Result.{err_from_is_err_and}
-use Rattle.fsrm_model.specs.Line.{readers, next_word, deed_words}
+use Rattle.fsrm_model.specs.lines.Line.{readers, next_word, deed_words}
 use Rattle.tool_commands.specs.LineFaults.{ReadsWords, at_moment}
 use Rattle.tool_commands.specs.Taking.{left, end, lent_word}
 use Rattle.tool_commands.proofs.NamedWords.{named_read, moment_read, fault_at_moment, line_words}

@@ -1,6 +1,6 @@
 use Rattle.std.proofs.Common.{◌∙◌, ap, sym}
 use Rattle.std.specs.List.{list_any}
-use Rattle.fsrm_model.specs.Words.{is_quote}
+use Rattle.fsrm_model.specs.lines.Words.{is_quote}
 use Rattle.tool_commands.proofs.QuoteCounts.{no_quote_found}
 use Rattle.tool_commands.proofs.reading.unclosed_quote.Goals as goal
 

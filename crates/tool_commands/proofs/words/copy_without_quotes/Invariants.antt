@@ -1,6 +1,6 @@
 use Rattle.std.proofs.Common.{◌≡◌, ◌++◌, length}
 use Rattle.std.specs.String.{string_bytes}
-use Rattle.fsrm_model.specs.Words.{without_quotes}
+use Rattle.fsrm_model.specs.lines.Words.{without_quotes}
 use Rattle.tool_commands.proofs.words.copy_without_quotes.Given as goal
 use denote.Shadow.{shadow}
 use denote.Text.{Utf8}

@@ -2,7 +2,7 @@ use Rattle.std.proofs.Common.{◌∙◌, ap}
 use Rattle.std.specs.List.{list_all}
 use Rattle.fsrm_base.proofs.Look.{has_found}
 use Rattle.fsrm_model.specs.declared.row.Threshold.{Threshold}
-use Rattle.fsrm_model.specs.Templates.{template_number}
+use Rattle.fsrm_model.specs.objects.Templates.{template_number}
 use Rattle.fsrm_objects.specs.Tables.{has_short_texts, is_short}
 use Rattle.vectors.proofs.quota_templates.derived.Goals as goal
 

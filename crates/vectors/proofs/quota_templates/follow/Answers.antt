@@ -1,7 +1,7 @@
 use Rattle.std.proofs.Common.{Some, ap, sym, ◌∙◌}
 use Rattle.std.specs.Prelude.{option_map}
 use Rattle.fsrm_base.proofs.Look.{has_found}
-use Rattle.fsrm_model.specs.Templates.{template_name, template_number, template_of}
+use Rattle.fsrm_model.specs.objects.Templates.{template_name, template_number, template_of}
 use Rattle.vectors.proofs.quota_templates.follow.Goals as goal
 
 pub modify-requires-clause-named : goal.modify-requires-clause-named

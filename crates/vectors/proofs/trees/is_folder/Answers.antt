@@ -1,6 +1,6 @@
 use Rattle.std.proofs.Common.{sym, ◌∙◌}
 use Rattle.fsrm_base.specs.Keyed.{has_row}
-use Rattle.fsrm_model.specs.Tree.{number, is_folder}
+use Rattle.fsrm_model.specs.nodes.Tree.{number, is_folder}
 use Rattle.fsrm_base.proofs.TestLaws.{clash, not_true}
 use Rattle.fsrm_model.proofs.valid.ValidLaws.{folder_has}
 use Rattle.vectors.proofs.trees.is_folder.Goals as goal

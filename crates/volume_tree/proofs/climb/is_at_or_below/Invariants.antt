@@ -1,6 +1,6 @@
 use Rattle.std.proofs.Common.{◌≡◌, ◌+◌, length}
 use Rattle.fsrm_base.specs.Numbers.{is_in}
-use Rattle.fsrm_model.specs.Tree.{chain}
+use Rattle.fsrm_model.specs.nodes.Tree.{chain}
 use Rattle.volume_tree.specs.Kept.{rows_of}
 use Rattle.volume_tree.specs.Looks.{passed}
 use Rattle.volume_tree.proofs.climb.is_at_or_below.Given as goal

@@ -1,8 +1,8 @@
 use Rattle.std.proofs.Common.{rules, ◌≡◌, ℕ, ◌^◌, ◌<◌, ◌==◌, ◌&&◌, ◌||◌, nat_lt, List, Some, sym, ◌∙◌, ap, subst}
 use Rattle.std.proofs.lemmas.Option.{same_Some}
 use Rattle.fsrm_model.specs.declared.row.NodeRow.{NodeRow}
-use Rattle.fsrm_model.specs.Name.{name_cmp}
-use Rattle.fsrm_model.specs.Tree.{number}
+use Rattle.fsrm_model.specs.values.Name.{name_cmp}
+use Rattle.fsrm_model.specs.nodes.Tree.{number}
 use Rattle.fsrm_base.proofs.Look.{found_has}
 use Rattle.volume_tree.specs.Entries.{place_key}
 use Rattle.volume_tree.specs.Kept.{Stands, rows_of}

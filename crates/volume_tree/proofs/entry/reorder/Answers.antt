@@ -1,6 +1,6 @@
 use Rattle.std.proofs.Common.{ℕ, Some, sym, ap, ◌∙◌}
 use Rattle.fsrm_base.proofs.Look.{found_key}
-use Rattle.fsrm_model.specs.Tree.{number, parent_of, child_number}
+use Rattle.fsrm_model.specs.nodes.Tree.{number, parent_of, child_number}
 use Rattle.fsrm_model.proofs.valid.ValidLaws.{found_parent}
 use Rattle.fsrm_model.proofs.nodes.Walks.{found_name}
 use Rattle.fsrm_model.specs.declared.row.NodeRow.{NodeRow}

@@ -1,6 +1,6 @@
 use Rattle.std.proofs.Common.{◌≡◌, ◌∙◌, ℕ, None, ap, length, slice_get, subst, sym}
 use Rattle.std.specs.Prelude.{IfOk, IfErr}
-use Rattle.fsrm_model.specs.Tree.{child_number}
+use Rattle.fsrm_model.specs.nodes.Tree.{child_number}
 use Rattle.block_list.specs.Places.{index_of}
 use Rattle.block_list.specs.Runs.{entries_of, start_of}
 use Rattle.volume_tree.specs.Kept.{IsPlace, rows_of}

@@ -1,7 +1,7 @@
 use Rattle.std.proofs.Common.{◌≡◌, ◌+◌, length, drop, Some, sym, ◌∙◌, ap, subst, arith}
 use Rattle.std.proofs.lemmas.List.{take_all}
 use Rattle.fsrm_model.specs.declared.row.NodeRow.{NodeRow}
-use Rattle.fsrm_model.specs.Tree.{name_bytes}
+use Rattle.fsrm_model.specs.nodes.Tree.{name_bytes}
 use Rattle.node_table.specs.Slots.{is_taken, with_slot}
 use Rattle.node_table.specs.Table.{Table, no_nodes}
 use Rattle.node_table.specs.Views.{IsInRange}

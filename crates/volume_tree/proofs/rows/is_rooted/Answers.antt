@@ -1,6 +1,6 @@
 use Rattle.std.proofs.Common.{◌-◌, ◌∙◌, sym, ap, subst, arith}
 use Rattle.fsrm_base.specs.Numbers.{is_in}
-use Rattle.fsrm_model.specs.Tree.{chain_in}
+use Rattle.fsrm_model.specs.nodes.Tree.{chain_in}
 use Rattle.volume_tree.specs.Kept.{rows_of}
 use Rattle.volume_tree.specs.Sound.{Reaches}
 use Rattle.volume_tree.proofs.kept.Reaches.{not_marked, step_up, up}

@@ -1,6 +1,6 @@
 use Rattle.std.proofs.Common.{◌≡◌}
 use Rattle.fsrm_base.specs.Numbers.{is_in}
-use Rattle.fsrm_model.specs.Tree.{chain_in, is_under}
+use Rattle.fsrm_model.specs.nodes.Tree.{chain_in, is_under}
 use Rattle.volume_tree.specs.Kept.{rows_of}
 use Rattle.volume_tree.specs.Sound.{Reaches}
 use Rattle.volume_tree.proofs.rows.is_rooted.Given as goal

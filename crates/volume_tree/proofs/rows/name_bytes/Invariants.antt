@@ -1,5 +1,5 @@
 use Rattle.std.proofs.Common.{◌≡◌, ◌+◌, take}
-use Rattle.fsrm_model.specs.Tree.{name_bytes}
+use Rattle.fsrm_model.specs.nodes.Tree.{name_bytes}
 use Rattle.volume_tree.proofs.rows.name_bytes.Given as goal
 
 abbrev pub invariant-loop-row : goal.invariant-loop-row

@@ -3,7 +3,7 @@ use Rattle.std.proofs.lemmas.Simd.{map-map}
 use Rattle.std.specs.Borrow.{Bor}
 use Rattle.std.specs.List.{AllAdjacentBelow, IsAllAdjacentAnswer}
 use Rattle.fsrm_model.specs.declared.row.NodeRow.{NodeRow}
-use Rattle.fsrm_model.specs.Tree.{number}
+use Rattle.fsrm_model.specs.nodes.Tree.{number}
 use Rattle.volume_tree.specs.Entries.{entry_of}
 use Rattle.volume_tree.specs.Kept.{is_before}
 use Rattle.block_list.specs.Runs.{entries_of}

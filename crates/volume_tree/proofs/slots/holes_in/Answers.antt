@@ -1,6 +1,6 @@
 use Rattle.std.proofs.Common.{◌≡◌, ◌+◌, true, false, length, sym, ◌∙◌, ap, subst, arith}
 use Rattle.fsrm_base.specs.Keyed.{has_row}
-use Rattle.fsrm_model.specs.Tree.{number}
+use Rattle.fsrm_model.specs.nodes.Tree.{number}
 use Rattle.number_set.specs.Numbers.{Numbers}
 use Rattle.volume_tree.specs.Kept.{rows_of}
 use Rattle.volume_tree.proofs.slotted.HoleLaws.{AreBelow, no_holes, hole_more, row_more, holes_below}

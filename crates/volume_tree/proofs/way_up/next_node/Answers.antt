@@ -1,5 +1,5 @@
 use Rattle.std.proofs.Common.{◌∙◌, ap}
-use Rattle.fsrm_model.specs.Tree.{above}
+use Rattle.fsrm_model.specs.nodes.Tree.{above}
 use Rattle.fsrm_model.proofs.nodes.Climbs.{above_lacks, above_next, above_root, own_then_above}
 use Rattle.volume_tree.specs.Kept.{rows_of}
 use Rattle.volume_tree.specs.Ways.{left}

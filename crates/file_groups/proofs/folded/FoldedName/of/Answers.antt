@@ -4,7 +4,7 @@ use Rattle.std.proofs.Math.Utf8.{encode}
 use Rattle.std.proofs.lemmas.List.{append-nil, length-set, nil_from_length, take_more_set}
 use Rattle.std.proofs.lemmas.Str.{IsUtf8-past_char, chars-nil, chars_past_char, len_utf8_bounds, length-encode}
 use Rattle.ucd_case.specs.CaseFolding.{simple_fold}
-use Rattle.fsrm_model.specs.Name.{folded}
+use Rattle.fsrm_model.specs.values.Name.{folded}
 use Rattle.file_groups.proofs.folded.FoldedName.of.Goals as goal
 
 -- a character has a byte at least

@@ -1,8 +1,8 @@
 use Rattle.std.proofs.Common.{◌≡◌, ◌+◌, ◌≤◌, ◌++◌, length, take}
 use Rattle.std.specs.Str.{IsUtf8}
 use Rattle.std.specs.Str.Iter.{chars_rest}
-use Rattle.fsrm_model.specs.Limits.{longest_name}
-use Rattle.fsrm_model.specs.Name.{folded}
+use Rattle.fsrm_model.specs.values.Limits.{longest_name}
+use Rattle.fsrm_model.specs.values.Name.{folded}
 use Rattle.file_groups.proofs.folded.FoldedName.of.Given as goal
 
 abbrev pub invariant-loop-character : goal.invariant-loop-character

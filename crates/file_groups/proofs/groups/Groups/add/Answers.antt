@@ -1,8 +1,8 @@
 use Rattle.std.proofs.Common.{List, ℕ, ◌≡◌, ◌<◌, false, sym, ◌∙◌, ap, subst}
 use Rattle.fsrm_model.specs.declared.row.GroupRow.{GroupRow}
 use Rattle.fsrm_base.specs.Keyed.{has_row, least_free}
-use Rattle.fsrm_model.specs.Limits.{most_groups}
-use Rattle.fsrm_model.specs.Patterns.{group_number, is_object_name}
+use Rattle.fsrm_model.specs.values.Limits.{most_groups}
+use Rattle.fsrm_model.specs.values.Patterns.{group_number, is_object_name}
 use Rattle.file_groups.specs.Kept.{AreMembers, AreNonMembers}
 use Rattle.file_groups.proofs.FaultLaws.{Admitted, admitted}
 use Rattle.file_groups.proofs.GroupLaws.{free_absent, free_below}

@@ -1,7 +1,7 @@
 use Rattle.std.proofs.Common.{List, ◌≡◌, ◌+◌, ◌-◌, remove, sym, ◌∙◌, ap, subst, arith}
 use Rattle.fsrm_model.specs.declared.row.GroupRow.{GroupRow}
-use Rattle.fsrm_model.specs.Patterns.{group_number, without_group}
-use Rattle.fsrm_model.specs.Texts.{group_bytes}
+use Rattle.fsrm_model.specs.values.Patterns.{group_number, without_group}
+use Rattle.fsrm_model.specs.values.Texts.{group_bytes}
 use Rattle.file_groups.specs.Ends.{Cover, in_some_group}
 use Rattle.file_groups.specs.Kept.{IsTable, group_texts}
 use Rattle.file_groups.proofs.GroupLaws.{at_place, less_are, less_texts}

@@ -2,7 +2,7 @@ use Rattle.std.proofs.Common.{List, ℕ, Option, ◌≡◌, true, refl, sym, ◌
 use Rattle.std.specs.Prelude.{IfSome, find}
 use Rattle.fsrm_model.specs.declared.row.GroupRow.{GroupRow}
 use Rattle.fsrm_base.specs.Keyed.{has_row}
-use Rattle.fsrm_model.specs.Patterns.{group_number, has_name, number_named}
+use Rattle.fsrm_model.specs.values.Patterns.{group_number, has_name, number_named}
 use Rattle.file_groups.proofs.GroupLaws.{found_there}
 use Rattle.file_groups.proofs.groups.Groups.find.Goals as goal
 

@@ -1,5 +1,5 @@
 use Rattle.std.proofs.Common.{◌==◌, ◌∙◌, ap}
-use Rattle.fsrm_model.specs.Patterns.{is_group}
+use Rattle.fsrm_model.specs.values.Patterns.{is_group}
 use Rattle.fsrm_base.proofs.Members.{all_found}
 use Rattle.file_groups.proofs.GroupLaws.{at_place, read_found}
 use Rattle.file_groups.proofs.groups.Groups.group.Goals as goal

@@ -1,6 +1,6 @@
 use Rattle.std.proofs.Common.{List, sym, subst, ap, ◌∙◌}
 use Rattle.fsrm_model.specs.declared.row.GroupRow.{GroupRow}
-use Rattle.fsrm_model.specs.Patterns.{group_number}
+use Rattle.fsrm_model.specs.values.Patterns.{group_number}
 use Rattle.fsrm_base.specs.Places.{IsAt}
 use Rattle.file_groups.specs.Folded.{in_group_folded}
 use Rattle.file_groups.proofs.GroupLaws.{found_in}

@@ -1,8 +1,8 @@
 use Rattle.std.proofs.Common.{List, insert, false, ◌+◌, ◌≤◌, sym, ◌∙◌, ap, subst, arith}
 use Rattle.std.specs.Prelude.{bit_or}
 use Rattle.fsrm_model.specs.declared.row.GroupRow.{GroupRow}
-use Rattle.fsrm_model.specs.Patterns.{group_number, with_group}
-use Rattle.fsrm_model.specs.Texts.{group_bytes}
+use Rattle.fsrm_model.specs.values.Patterns.{group_number, with_group}
+use Rattle.fsrm_model.specs.values.Texts.{group_bytes}
 use Rattle.file_groups.specs.Ends.{Cover, in_some_group}
 use Rattle.file_groups.specs.Folded.{in_group_folded}
 use Rattle.file_groups.specs.Kept.{IsTable}

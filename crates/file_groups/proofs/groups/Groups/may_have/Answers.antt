@@ -1,6 +1,6 @@
 use Rattle.std.proofs.Common.{List, ◌≡◌, false, subst}
 use Rattle.fsrm_model.specs.declared.row.GroupRow.{GroupRow}
-use Rattle.fsrm_model.specs.Patterns.{in_group_of}
+use Rattle.fsrm_model.specs.values.Patterns.{in_group_of}
 use Rattle.file_groups.specs.Ends.{in_some_group}
 use Rattle.file_groups.proofs.EndLaws.{in_none}
 use Rattle.file_groups.proofs.groups.Groups.may_have.Goals as goal

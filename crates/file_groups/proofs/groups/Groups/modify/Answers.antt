@@ -2,8 +2,8 @@ use Rattle.std.proofs.Common.{List, ◌≡◌, ◌+◌, ◌≤◌, true, not, sy
 use Rattle.std.specs.Prelude.{is_some, slice_set}
 use Rattle.std.specs.Option.{option_copied}
 use Rattle.fsrm_model.specs.declared.row.GroupRow.{GroupRow}
-use Rattle.fsrm_model.specs.Patterns.{is_group, regrouped, with_patterns}
-use Rattle.fsrm_model.specs.Texts.{group_bytes}
+use Rattle.fsrm_model.specs.values.Patterns.{is_group, regrouped, with_patterns}
+use Rattle.fsrm_model.specs.values.Texts.{group_bytes}
 use Rattle.file_groups.specs.Ends.{Cover, in_some_group}
 use Rattle.file_groups.specs.Faults.{patterns_fault}
 use Rattle.file_groups.specs.Kept.{AreGroups, group_texts}

@@ -1,5 +1,5 @@
 use Rattle.std.proofs.Common.{sym, ap, ◌∙◌}
-use Rattle.fsrm_model.specs.Name.{folded}
+use Rattle.fsrm_model.specs.values.Name.{folded}
 use Rattle.file_groups.specs.Folded.{pattern_matches_folded}
 use Rattle.file_groups.proofs.FoldLaws.{pattern_folded}
 use Rattle.file_groups.proofs.pattern.Pattern.matches.Goals as goal

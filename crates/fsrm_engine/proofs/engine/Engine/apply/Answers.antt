@@ -1,9 +1,9 @@
 use Rattle.std.proofs.Common.{◌≡◌, true, refl, subst, arith}
 use Rattle.std.specs.Prelude.{◌&&◌, OnErr}
 use Rattle.fsrm_base.proofs.TestLaws.{both, le_is}
-use Rattle.fsrm_model.specs.Limits.{latest_moment}
-use Rattle.fsrm_model.specs.Valid.{is_moment}
-use Rattle.fsrm_model.specs.Valued.{is_deed, is_short}
+use Rattle.fsrm_model.specs.values.Limits.{latest_moment}
+use Rattle.fsrm_model.specs.store.Valid.{is_moment}
+use Rattle.fsrm_model.specs.store.Valued.{is_deed, is_short}
 use Rattle.fsrm_model.proofs.commands.EachCommand.{step_acts}
 use Rattle.fsrm_engine.specs.Machine.{Machine, machine_of, rows_of}
 use Rattle.fsrm_engine.specs.Memory.{may_want_memory}

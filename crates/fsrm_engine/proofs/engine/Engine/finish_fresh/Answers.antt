@@ -1,5 +1,5 @@
 use Rattle.std.proofs.Common.{◌≡◌, ◌+◌, ◌*◌, ◌≤◌, subst, length}
-use Rattle.fsrm_model.specs.Tree.{under}
+use Rattle.fsrm_model.specs.nodes.Tree.{under}
 use Rattle.fsrm_engine.specs.Machine.{Machine, machine_of}
 use Rattle.fsrm_engine.proofs.steps.FinishLaws.{finish_seen, finish_whole, seen_after}
 use Rattle.fsrm_engine.proofs.steps.WholeLaws.{seen_idle}

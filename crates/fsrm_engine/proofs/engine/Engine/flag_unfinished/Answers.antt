@@ -1,5 +1,5 @@
 use Rattle.std.proofs.Common.{◌≡◌, subst}
-use Rattle.fsrm_model.specs.Lasting.{lasting}
+use Rattle.fsrm_model.specs.store.Lasting.{lasting}
 use Rattle.fsrm_engine.specs.Machine.{Machine, machine_of}
 use Rattle.fsrm_engine.proofs.engine.Engine.flag_unfinished.Goals as goal
 

@@ -1,7 +1,7 @@
 use Rattle.std.proofs.Common.{refl, arith}
 use Rattle.fsrm_model.specs.declared.command.Command.{Command}
 use Rattle.fsrm_model.specs.declared.command.Deed.TheVariants.{Step}
-use Rattle.fsrm_model.specs.ScanWork.{step_work}
+use Rattle.fsrm_model.specs.commands.ScanWork.{step_work}
 use Rattle.fsrm_model.proofs.commands.EachCommand.{kept_acts, kept_valid}
 use Rattle.fsrm_model.proofs.commands.Orderly.{unjudged_named}
 use Rattle.fsrm_model.proofs.commands.ScanCommands.{step_kept}

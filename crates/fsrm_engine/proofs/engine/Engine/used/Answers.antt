@@ -1,5 +1,5 @@
 use Rattle.std.proofs.Common.{ap, ◌∙◌}
-use Rattle.fsrm_model.specs.Quota.{used_of}
+use Rattle.fsrm_model.specs.objects.Quota.{used_of}
 use Rattle.fsrm_engine.specs.Machine.{Machine}
 use Rattle.fsrm_engine.proofs.operations.IdleLaws.{used_at}
 use Rattle.fsrm_engine.proofs.engine.Engine.used.Goals as goal

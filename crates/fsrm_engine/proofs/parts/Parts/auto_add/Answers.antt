@@ -6,7 +6,7 @@ use Rattle.fsrm_model.specs.declared.command.AutoquotaDeed.TheVariants.{Add as A
 use Rattle.fsrm_model.specs.declared.command.Deed.TheVariants.{Autoquota}
 use Rattle.fsrm_model.specs.declared.row.AutoRow.{AutoRow}
 use Rattle.fsrm_model.specs.declared.row.QuotaRow.{QuotaRow}
-use Rattle.fsrm_model.specs.AutoApply.{auto_folder, is_auto, auto_of}
+use Rattle.fsrm_model.specs.objects.AutoApply.{auto_folder, is_auto, auto_of}
 use Rattle.fsrm_model.proofs.commands.ValueParts.{new_autoquota_parts}
 use Rattle.templates.specs.Held.{with_auto}
 use Rattle.fsrm_engine.specs.Applying.{AreComing, IsGiven, apply_refusal, given_folders}

@@ -1,4 +1,4 @@
-use Rattle.fsrm_model.specs.AutoApply.{auto_of}
+use Rattle.fsrm_model.specs.objects.AutoApply.{auto_of}
 use Rattle.fsrm_engine.specs.Machine.{rows_of}
 use Rattle.fsrm_engine.proofs.applied.AutoLaws.{auto_deleted, has_auto, ruled}
 use Rattle.fsrm_engine.proofs.steps.WholeLaws.{sound_ended}

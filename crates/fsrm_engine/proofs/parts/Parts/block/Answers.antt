@@ -1,7 +1,7 @@
 use Rattle.std.proofs.Common.{Some, true, ap, sym}
 use Rattle.fsrm_model.specs.declared.command.Outcome.TheVariants.{Refused}
 use Rattle.fsrm_model.specs.declared.command.Refusal.TheVariants.{ScreenBlocked}
-use Rattle.fsrm_model.specs.Work.{Judged}
+use Rattle.fsrm_model.specs.commands.Work.{Judged}
 use Rattle.file_screens.specs.declared.answer.Blocked.{Blocked}
 use Rattle.fsrm_engine.proofs.judging.JudgedLaws.{told_of, told_same}
 use Rattle.fsrm_engine.proofs.judging.NotedLaws.{counted_noted, noted}

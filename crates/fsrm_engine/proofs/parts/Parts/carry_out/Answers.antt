@@ -1,8 +1,8 @@
 use Rattle.std.proofs.Common.{◌≡◌, ap, sym, ◌∙◌}
 use Rattle.std.specs.Prelude.{◌&&◌}
 use Rattle.fsrm_base.proofs.TestLaws.{both}
-use Rattle.fsrm_model.specs.Valid.{is_moment}
-use Rattle.fsrm_model.specs.Valued.{is_deed, is_short}
+use Rattle.fsrm_model.specs.store.Valid.{is_moment}
+use Rattle.fsrm_model.specs.store.Valued.{is_deed, is_short}
 use Rattle.fsrm_engine.proofs.parts.Parts.carry_out.Goals as goal
 
 pub operate-requires-clause-valid : goal.operate-requires-clause-valid

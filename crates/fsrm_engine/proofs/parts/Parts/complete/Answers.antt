@@ -2,8 +2,8 @@ use Rattle.std.proofs.Common.{List, refl, ap, ◌∙◌}
 use Rattle.fsrm_base.specs.Keyed.{has_row, is_ascending, with_change}
 use Rattle.fsrm_base.proofs.Look.{has_found, has_row-change}
 use Rattle.fsrm_model.specs.declared.row.QuotaState.TheVariants.{Complete}
-use Rattle.fsrm_model.specs.Quota.{folder_of}
-use Rattle.fsrm_model.specs.QuotaStates.{in_state}
+use Rattle.fsrm_model.specs.objects.Quota.{folder_of}
+use Rattle.fsrm_model.specs.objects.QuotaStates.{in_state}
 use Rattle.fsrm_objects.specs.Tables.{Tables}
 use Rattle.quota_usage.specs.declared.change.Counter.{Counter}
 use Rattle.fsrm_engine.specs.Due.{with_complete}

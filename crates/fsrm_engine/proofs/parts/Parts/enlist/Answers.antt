@@ -1,8 +1,8 @@
 use Rattle.std.proofs.Common.{◌<◌, length, ap, sym, ◌∙◌, subst, arith}
 use Rattle.fsrm_base.specs.Keyed.{with_row}
-use Rattle.fsrm_model.specs.Limits.{most_quotas}
-use Rattle.fsrm_model.specs.Quota.{folder_of}
-use Rattle.fsrm_model.specs.QuotaStates.{queued}
+use Rattle.fsrm_model.specs.values.Limits.{most_quotas}
+use Rattle.fsrm_model.specs.objects.Quota.{folder_of}
+use Rattle.fsrm_model.specs.objects.QuotaStates.{queued}
 use Rattle.fsrm_objects.proofs.FaultLaws.{admitted}
 use Rattle.rescan.proofs.unvisited.FindLaws.{folder_low}
 use Rattle.rescan.specs.Courses.{Course}

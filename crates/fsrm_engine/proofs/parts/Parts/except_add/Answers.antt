@@ -1,7 +1,7 @@
 use Rattle.std.proofs.Common.{ℕ, List, ap, ◌∙◌}
 use Rattle.std.specs.Prelude.{fold}
-use Rattle.fsrm_model.specs.Screens.{except_of, screen_of}
-use Rattle.fsrm_model.specs.ScreenWork.{are_named, new_except, numbers_named, with_last}
+use Rattle.fsrm_model.specs.objects.Screens.{except_of, screen_of}
+use Rattle.fsrm_model.specs.commands.ScreenWork.{are_named, new_except, numbers_named, with_last}
 use Rattle.fsrm_objects.specs.Tables.{Tables}
 use Rattle.fsrm_engine.specs.Machine.{rows_of}
 use Rattle.fsrm_engine.proofs.coming.MemoryLaws.{folder_wants, on_err}

@@ -1,6 +1,6 @@
 use Rattle.std.proofs.Common.{ap, ◌∙◌}
 use Rattle.std.specs.Prelude.{unwrap_or}
-use Rattle.fsrm_model.specs.Tree.{usage}
+use Rattle.fsrm_model.specs.nodes.Tree.{usage}
 use Rattle.fsrm_engine.proofs.steps.ScanSteps.{head_quota, head_uncounted, next_queue, finished_sound}
 use Rattle.fsrm_engine.proofs.parts.Parts.finish.Goals as goal
 

@@ -2,8 +2,8 @@ use Rattle.std.proofs.Common.{◌≡◌, false, [], refl, ap, sym, ◌∙◌, su
 use Rattle.std.specs.Prelude.{if◌then◌else◌}
 use Rattle.std.proofs.lemmas.Option.{same_Some}
 use Rattle.fsrm_model.specs.declared.row.QuotaRow.{QuotaRow}
-use Rattle.fsrm_model.specs.Quota.{counts}
-use Rattle.fsrm_model.specs.Replays.{completed, finished}
+use Rattle.fsrm_model.specs.objects.Quota.{counts}
+use Rattle.fsrm_model.specs.store.Replays.{completed, finished}
 use Rattle.fsrm_engine.specs.Machine.{AreMarked, rows_of}
 use Rattle.fsrm_engine.proofs.settling.MarkLaws.{idle_marked}
 use Rattle.fsrm_engine.proofs.steps.FinishLaws.{counters_are, fresh_finish, unfinished}

@@ -1,7 +1,7 @@
 use Rattle.std.proofs.Common.{◌≡◌, Some, None, is_none, refl, ap, sym, ◌∙◌, subst}
 use Rattle.std.specs.Option.{option_copied}
-use Rattle.fsrm_model.specs.QuotaWork.{first_quota}
-use Rattle.fsrm_model.specs.Templates.{template_named}
+use Rattle.fsrm_model.specs.commands.QuotaWork.{first_quota}
+use Rattle.fsrm_model.specs.objects.Templates.{template_named}
 use Rattle.fsrm_engine.specs.Machine.{rows_of}
 use Rattle.fsrm_engine.specs.Sources.{IsFirst}
 use Rattle.fsrm_engine.proofs.tables.SourceLaws.{named_found, named_there}

@@ -4,7 +4,7 @@ use Rattle.fsrm_model.specs.declared.command.Answer.{Answer}
 use Rattle.fsrm_model.specs.declared.command.Deed.TheVariants.{Step}
 use Rattle.fsrm_model.specs.declared.command.Outcome.TheVariants.{Scanned}
 use Rattle.fsrm_model.specs.declared.command.Refusal.TheVariants.{NothingToScan}
-use Rattle.fsrm_model.specs.Quota.{folder_of}
+use Rattle.fsrm_model.specs.objects.Quota.{folder_of}
 use Rattle.fsrm_engine.specs.declared.parts.Parts.{Parts}
 use Rattle.fsrm_engine.specs.Due.{Finishes}
 use Rattle.fsrm_engine.specs.Machine.{Does, IsIdle}

@@ -1,7 +1,7 @@
 use Rattle.std.proofs.Common.{ap, refl, sym, ◌∙◌}
 use Rattle.fsrm_model.specs.declared.command.Deed.TheVariants.{Filegroup}
 use Rattle.fsrm_model.specs.declared.command.FilegroupDeed.TheVariants.{Delete as FilegroupDelete}
-use Rattle.fsrm_model.specs.Patterns.{number_named}
+use Rattle.fsrm_model.specs.values.Patterns.{number_named}
 use Rattle.fsrm_engine.proofs.steps.StepLaws.{refused_as}
 use Rattle.fsrm_engine.proofs.tables.GroupLaws.{group_deleted, group_gone, group_used, retabled_counted, retabled_ended}
 use Rattle.fsrm_engine.proofs.parts.Parts.group_delete.Goals as goal

@@ -4,7 +4,7 @@ use Rattle.std.specs.Option.{option_copied}
 use Rattle.file_groups.specs.Kept.{AreMembers, AreNonMembers}
 use Rattle.fsrm_model.specs.declared.command.Deed.TheVariants.{Filegroup}
 use Rattle.fsrm_model.specs.declared.command.FilegroupDeed.TheVariants.{Modify as FilegroupModify}
-use Rattle.fsrm_model.specs.Patterns.{number_named}
+use Rattle.fsrm_model.specs.values.Patterns.{number_named}
 use Rattle.fsrm_model.proofs.commands.ValueParts.{filegroup_change_parts}
 use Rattle.fsrm_engine.proofs.steps.StepLaws.{refused_as}
 use Rattle.fsrm_engine.proofs.tables.GroupLaws.{group_changed, group_missing, group_unchanged, retabled_counted, retabled_ended, retabled_sound}

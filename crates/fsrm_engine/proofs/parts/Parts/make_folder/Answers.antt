@@ -2,8 +2,8 @@ use Rattle.std.proofs.Common.{◌≡◌, true, ℕ, Option, ap, sym, ◌∙◌, 
 use Rattle.std.specs.Prelude.{IfSome, OnOk}
 use Rattle.fsrm_base.specs.Keyed.{has_row}
 use Rattle.fsrm_model.specs.declared.row.QuotaState.TheVariants.{Complete}
-use Rattle.fsrm_model.specs.Templates.{template_number}
-use Rattle.fsrm_model.specs.Tree.{fresh}
+use Rattle.fsrm_model.specs.objects.Templates.{template_number}
+use Rattle.fsrm_model.specs.nodes.Tree.{fresh}
 use Rattle.fsrm_engine.specs.Arrivals.{from_source, with_folder}
 use Rattle.fsrm_engine.proofs.coming.MadeQuota.{plain_folder}
 use Rattle.fsrm_engine.proofs.operations.IdleLaws.{idle_made}

@@ -1,8 +1,8 @@
 use Rattle.std.proofs.Common.{rules, ◌≡◌, [], ◌∷◌, refl, sym, subst, arith}
 use Rattle.std.specs.Prelude.{Result, Ok, Err, IfOk}
 use Rattle.fsrm_base.specs.declared.memory.NoMemory.{NoMemory as Wanting}
-use Rattle.fsrm_model.specs.Fresh.{new_rows, root_node}
-use Rattle.fsrm_model.specs.Valid.{IsValid, IsVolume}
+use Rattle.fsrm_model.specs.nodes.Fresh.{new_rows, root_node}
+use Rattle.fsrm_model.specs.store.Valid.{IsValid, IsVolume}
 use Rattle.fsrm_model.proofs.valid.ValidTests.{new_valid}
 use Rattle.fsrm_base.proofs.TestLaws.{lt_is}
 use Rattle.rescan.specs.Frontiers.{idle}

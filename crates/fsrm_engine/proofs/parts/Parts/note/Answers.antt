@@ -1,5 +1,5 @@
 use Rattle.fsrm_base.proofs.Look.{found_has}
-use Rattle.fsrm_model.specs.Screens.{screen_folder}
+use Rattle.fsrm_model.specs.objects.Screens.{screen_folder}
 use Rattle.fsrm_engine.proofs.judging.JudgedLaws.{told_of}
 use Rattle.fsrm_engine.proofs.judging.NotedLaws.{notes}
 use Rattle.fsrm_engine.proofs.parts.Parts.note.Goals as goal

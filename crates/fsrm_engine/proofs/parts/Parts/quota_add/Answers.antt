@@ -4,8 +4,8 @@ use Rattle.fsrm_model.specs.declared.command.Deed.TheVariants.{Quota}
 use Rattle.fsrm_model.specs.declared.command.NewQuota.{NewQuota}
 use Rattle.fsrm_model.specs.declared.command.QuotaDeed.TheVariants.{Add as QuotaAdd}
 use Rattle.fsrm_model.specs.declared.row.QuotaRow.{QuotaRow}
-use Rattle.fsrm_model.specs.QuotaWork.{changed_by, modified, remarked}
-use Rattle.fsrm_model.specs.Tree.{is_folder}
+use Rattle.fsrm_model.specs.commands.QuotaWork.{changed_by, modified, remarked}
+use Rattle.fsrm_model.specs.nodes.Tree.{is_folder}
 use Rattle.fsrm_model.proofs.commands.ValueParts.{new_quota_parts}
 use Rattle.fsrm_objects.specs.Tables.{quota_fault}
 use Rattle.fsrm_engine.specs.declared.parts.Parts.{Parts}

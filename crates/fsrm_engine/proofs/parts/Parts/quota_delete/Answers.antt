@@ -3,7 +3,7 @@ use Rattle.fsrm_model.specs.declared.command.Deed.TheVariants.{Quota}
 use Rattle.fsrm_model.specs.declared.command.QuotaDeed.TheVariants.{Delete as QuotaDelete}
 use Rattle.fsrm_base.specs.Keyed.{without_row}
 use Rattle.fsrm_base.specs.Numbers.{without_number}
-use Rattle.fsrm_model.specs.Quota.{folder_of}
+use Rattle.fsrm_model.specs.objects.Quota.{folder_of}
 use Rattle.fsrm_engine.specs.Machine.{rows_of}
 use Rattle.fsrm_engine.proofs.steps.PlaceLaws.{target_is}
 use Rattle.fsrm_engine.proofs.tables.QuotaLaws.{first_bare, quota_due}

@@ -5,8 +5,8 @@ use Rattle.fsrm_model.specs.declared.command.Deed.TheVariants.{Quota}
 use Rattle.fsrm_model.specs.declared.command.QuotaDeed.TheVariants.{Modify as QuotaModify}
 use Rattle.fsrm_model.specs.declared.row.QuotaRow.{QuotaRow}
 use Rattle.fsrm_model.specs.declared.row.Threshold.{Threshold}
-use Rattle.fsrm_model.specs.QuotaStates.{in_state, state_after}
-use Rattle.fsrm_model.specs.Thresholds.{may_be_removed, percent_of}
+use Rattle.fsrm_model.specs.objects.QuotaStates.{in_state, state_after}
+use Rattle.fsrm_model.specs.objects.Thresholds.{may_be_removed, percent_of}
 use Rattle.fsrm_model.proofs.commands.ValueParts.{quota_change_parts}
 use Rattle.fsrm_engine.specs.Faults.{table_refusal, text_room}
 use Rattle.fsrm_engine.specs.Machine.{rows_of}

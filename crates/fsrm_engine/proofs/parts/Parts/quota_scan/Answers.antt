@@ -5,9 +5,9 @@ use Rattle.fsrm_model.specs.declared.command.Deed.TheVariants.{Quota}
 use Rattle.fsrm_model.specs.declared.command.QuotaDeed.TheVariants.{Scan as QuotaScan}
 use Rattle.fsrm_model.specs.declared.command.Refusal.TheVariants.{InvalidCombination}
 use Rattle.fsrm_model.specs.declared.row.QuotaState.TheVariants.{Disabled, Rebuilding}
-use Rattle.fsrm_model.specs.Check.{◌when◌, first}
-use Rattle.fsrm_model.specs.Quota.{folder_of, quota_of, counts}
-use Rattle.fsrm_model.specs.QuotaStates.{in_state, is_disabled, queued, state_of, with_state}
+use Rattle.fsrm_model.specs.commands.Check.{◌when◌, first}
+use Rattle.fsrm_model.specs.objects.Quota.{folder_of, quota_of, counts}
+use Rattle.fsrm_model.specs.objects.QuotaStates.{in_state, is_disabled, queued, state_of, with_state}
 use Rattle.fsrm_base.specs.Keyed.{with_change}
 use Rattle.fsrm_base.proofs.Look.{found_has}
 use Rattle.fsrm_engine.specs.Machine.{rows_of}

@@ -1,7 +1,7 @@
 use Rattle.std.proofs.Common.{true, List, ap, ◌∙◌}
 use Rattle.std.specs.Prelude.{map}
 use Rattle.fsrm_model.specs.declared.row.QuotaRow.{QuotaRow}
-use Rattle.fsrm_model.specs.Quota.{folder_of, peaked}
+use Rattle.fsrm_model.specs.objects.Quota.{folder_of, peaked}
 use Rattle.fsrm_objects.specs.Tables.{Tables}
 use Rattle.fsrm_engine.proofs.tables.PeakLaws.{peaks_stay, all_raised}
 use Rattle.fsrm_engine.proofs.parts.Parts.raise_peaks.Goals as goal

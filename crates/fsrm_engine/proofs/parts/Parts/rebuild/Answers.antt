@@ -1,7 +1,7 @@
 use Rattle.fsrm_model.specs.declared.row.QuotaState.TheVariants.{Rebuilding}
 use Rattle.fsrm_base.specs.Keyed.{with_change}
-use Rattle.fsrm_model.specs.Quota.{folder_of}
-use Rattle.fsrm_model.specs.QuotaStates.{in_state, queued}
+use Rattle.fsrm_model.specs.objects.Quota.{folder_of}
+use Rattle.fsrm_model.specs.objects.QuotaStates.{in_state, queued}
 use Rattle.fsrm_engine.proofs.tables.TurnLaws.{turned, turned_sound}
 use Rattle.fsrm_engine.proofs.parts.Parts.rebuild.Goals as goal
 

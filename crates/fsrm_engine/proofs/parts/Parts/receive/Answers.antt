@@ -3,9 +3,9 @@ use Rattle.std.proofs.lemmas.List.{nil_from_length}
 use Rattle.std.specs.Prelude.{fold}
 use Rattle.std.specs.Vec.{vec_len}
 use Rattle.fsrm_base.proofs.TestLaws.{eq_is}
-use Rattle.fsrm_model.specs.AutoApply.{queue_with, quotas_with}
-use Rattle.fsrm_model.specs.Limits.{most_quotas}
-use Rattle.fsrm_model.specs.ValidScans.{IsQueue}
+use Rattle.fsrm_model.specs.objects.AutoApply.{queue_with, quotas_with}
+use Rattle.fsrm_model.specs.values.Limits.{most_quotas}
+use Rattle.fsrm_model.specs.store.ValidScans.{IsQueue}
 use Rattle.fsrm_objects.specs.Tables.{Tables}
 use Rattle.fsrm_engine.specs.declared.parts.Parts.{Parts}
 use Rattle.fsrm_engine.specs.Applying.{AreComing}

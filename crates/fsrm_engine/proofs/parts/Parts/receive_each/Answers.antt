@@ -3,7 +3,7 @@ use Rattle.std.proofs.lemmas.List.{nil_from_length}
 use Rattle.std.specs.Prelude.{fold}
 use Rattle.std.specs.Vec.Iter.{into_iter_items}
 use Rattle.fsrm_model.specs.declared.row.QuotaRow.{QuotaRow}
-use Rattle.fsrm_model.specs.AutoApply.{queue_with, quotas_with}
+use Rattle.fsrm_model.specs.objects.AutoApply.{queue_with, quotas_with}
 use Rattle.fsrm_engine.specs.Applying.{AreComing}
 use Rattle.fsrm_engine.specs.Machine.{Turned}
 use Rattle.fsrm_engine.proofs.applied.ReceiveLaws.{Received, coming_first, received_all, received_none, received_one}

@@ -1,8 +1,8 @@
 use Rattle.std.proofs.Common.{◌≡◌, true, None, ℕ, Option, ap, sym, subst}
 use Rattle.std.specs.Prelude.{IfSome, is_some}
 use Rattle.fsrm_base.specs.Keyed.{has_row}
-use Rattle.fsrm_model.specs.QuotaStates.{start}
-use Rattle.fsrm_model.specs.Templates.{template_number}
+use Rattle.fsrm_model.specs.objects.QuotaStates.{start}
+use Rattle.fsrm_model.specs.objects.Templates.{template_number}
 use Rattle.fsrm_engine.specs.Arrivals.{Receives, from_source, source_fault}
 use Rattle.fsrm_engine.proofs.coming.OneComes.{none_comes, one_comes, one_coming}
 use Rattle.fsrm_engine.proofs.tables.QueueLaws.{few_scans}

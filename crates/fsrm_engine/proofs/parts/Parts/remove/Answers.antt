@@ -1,13 +1,13 @@
 use Rattle.std.proofs.Common.{None, refl, ap, sym, ◌∙◌, arith}
 use Rattle.fsrm_model.specs.declared.command.Deed.TheVariants.{File}
 use Rattle.fsrm_model.specs.declared.command.FileOp.TheVariants.{Remove}
-use Rattle.fsrm_model.specs.FileOps.{plain}
-use Rattle.fsrm_model.specs.AutoApply.{auto_folder}
+use Rattle.fsrm_model.specs.nodes.FileOps.{plain}
+use Rattle.fsrm_model.specs.objects.AutoApply.{auto_folder}
 use Rattle.fsrm_base.specs.Keyed.{without_row}
 use Rattle.fsrm_base.proofs.TestLaws.{is_inner}
-use Rattle.fsrm_model.specs.Quota.{folder_of}
-use Rattle.fsrm_model.specs.Screens.{screen_folder, except_folder}
-use Rattle.fsrm_model.specs.Tree.{number}
+use Rattle.fsrm_model.specs.objects.Quota.{folder_of}
+use Rattle.fsrm_model.specs.objects.Screens.{screen_folder, except_folder}
+use Rattle.fsrm_model.specs.nodes.Tree.{number}
 use Rattle.volume_tree.specs.Volume.{Volume}
 use Rattle.fsrm_engine.specs.declared.parts.Parts.{Parts}
 use Rattle.rescan.proofs.queued.Leaving.{file_children}

@@ -1,6 +1,6 @@
 use Rattle.fsrm_base.specs.Keyed.{with_change}
-use Rattle.fsrm_model.specs.Quota.{folder_of}
-use Rattle.fsrm_model.specs.QuotaStates.{queued}
+use Rattle.fsrm_model.specs.objects.Quota.{folder_of}
+use Rattle.fsrm_model.specs.objects.QuotaStates.{queued}
 use Rattle.fsrm_engine.proofs.tables.TurnLaws.{turned, turned_sound}
 use Rattle.fsrm_engine.proofs.parts.Parts.replace.Goals as goal
 

@@ -3,10 +3,10 @@ use Rattle.std.proofs.lemmas.Option.{same_Some}
 use Rattle.std.specs.Prelude.{option_map}
 use Rattle.fsrm_model.specs.declared.command.Deed.TheVariants.{File}
 use Rattle.fsrm_model.specs.declared.command.FileOp.TheVariants.{Resize}
-use Rattle.fsrm_model.specs.FileOps.{resized}
+use Rattle.fsrm_model.specs.nodes.FileOps.{resized}
 use Rattle.fsrm_base.specs.Keyed.{with_change}
 use Rattle.fsrm_base.proofs.TestLaws.{clash, eq_test}
-use Rattle.fsrm_model.specs.Tree.{number}
+use Rattle.fsrm_model.specs.nodes.Tree.{number}
 use Rattle.fsrm_model.proofs.nodes.Resolves.{resolved}
 use Rattle.volume_tree.specs.Volume.{Volume}
 use Rattle.quota_usage.specs.declared.change.Change.{Change}

@@ -2,8 +2,8 @@ use Rattle.std.proofs.Common.{ℕ, List, ap, refl, ◌∙◌}
 use Rattle.std.specs.Prelude.{fold}
 use Rattle.fsrm_model.specs.declared.command.Deed.TheVariants.{Screen}
 use Rattle.fsrm_model.specs.declared.command.ScreenDeed.TheVariants.{Add as ScreenAdd}
-use Rattle.fsrm_model.specs.Screens.{except_of, screen_of}
-use Rattle.fsrm_model.specs.ScreenWork.{are_named, new_screen, numbers_named, with_last}
+use Rattle.fsrm_model.specs.objects.Screens.{except_of, screen_of}
+use Rattle.fsrm_model.specs.commands.ScreenWork.{are_named, new_screen, numbers_named, with_last}
 use Rattle.fsrm_model.proofs.commands.ValueParts.{new_screen_parts}
 use Rattle.fsrm_objects.specs.Tables.{Tables, has_short_actions}
 use Rattle.fsrm_engine.specs.Machine.{rows_of}

@@ -2,7 +2,7 @@ use Rattle.std.proofs.Common.{ap}
 use Rattle.fsrm_base.proofs.Look.{found_has}
 use Rattle.fsrm_model.specs.declared.command.Deed.TheVariants.{Screen}
 use Rattle.fsrm_model.specs.declared.command.ScreenDeed.TheVariants.{Delete as ScreenDelete}
-use Rattle.fsrm_model.specs.Screens.{screen_folder}
+use Rattle.fsrm_model.specs.objects.Screens.{screen_folder}
 use Rattle.fsrm_objects.specs.Tables.{Tables}
 use Rattle.fsrm_engine.specs.Machine.{rows_of}
 use Rattle.fsrm_engine.proofs.steps.StepLaws.{refused_as}

@@ -1,7 +1,7 @@
 use Rattle.std.proofs.Common.{ℕ, ◌&&◌, List, ap, ◌∙◌}
 use Rattle.fsrm_model.specs.declared.command.Deed.TheVariants.{Screen}
 use Rattle.fsrm_model.specs.declared.command.ScreenDeed.TheVariants.{Modify as ScreenModify}
-use Rattle.fsrm_model.specs.ScreenWork.{are_named, changed_groups, may_be_taken, numbers_named, rescreened}
+use Rattle.fsrm_model.specs.commands.ScreenWork.{are_named, changed_groups, may_be_taken, numbers_named, rescreened}
 use Rattle.fsrm_objects.specs.Tables.{Tables}
 use Rattle.fsrm_engine.specs.Machine.{rows_of}
 use Rattle.fsrm_engine.proofs.coming.MemoryLaws.{folder_wants, on_err}

@@ -3,7 +3,7 @@ use Rattle.std.specs.Prelude.{flat_map}
 use Rattle.std.specs.List.{list_all}
 use Rattle.fsrm_base.specs.Keyed.{has_row, is_ascending}
 use Rattle.fsrm_model.specs.declared.row.QuotaRow.{QuotaRow}
-use Rattle.fsrm_model.specs.Quota.{folder_of}
+use Rattle.fsrm_model.specs.objects.Quota.{folder_of}
 use Rattle.thresholds.specs.Settled.{Settles}
 use Rattle.fsrm_engine.specs.Due.{updated_acts}
 use Rattle.fsrm_engine.proofs.settling.MarkLaws.{calm_of, calm_set, calm_there}

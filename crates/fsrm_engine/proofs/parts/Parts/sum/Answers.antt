@@ -3,8 +3,8 @@ use Rattle.std.specs.Prelude.{is_some}
 use Rattle.fsrm_model.specs.declared.command.Deed.TheVariants.{Usage}
 use Rattle.fsrm_model.specs.declared.command.Outcome.TheVariants.{Sum}
 use Rattle.fsrm_model.specs.declared.command.Refusal.TheVariants.{PathNotFound}
-use Rattle.fsrm_model.specs.Check.{◌when◌, first}
-use Rattle.fsrm_model.specs.Tree.{resolve, usage}
+use Rattle.fsrm_model.specs.commands.Check.{◌when◌, first}
+use Rattle.fsrm_model.specs.nodes.Tree.{resolve, usage}
 use Rattle.fsrm_model.proofs.nodes.Resolves.{resolved}
 use Rattle.fsrm_engine.proofs.coming.MemoryLaws.{on_err}
 use Rattle.fsrm_engine.proofs.steps.PlaceLaws.{leads_to_folder_is, target_is}

@@ -3,8 +3,8 @@ use Rattle.fsrm_model.specs.declared.command.NewThresholds.{NewThresholds}
 use Rattle.fsrm_model.specs.declared.command.Deed.TheVariants.{Template}
 use Rattle.fsrm_model.specs.declared.command.TemplateDeed.TheVariants.{Add as TemplateAdd}
 use Rattle.fsrm_model.specs.declared.row.TemplateRow.{TemplateRow}
-use Rattle.fsrm_model.specs.Templates.{is_template}
-use Rattle.fsrm_model.specs.Thresholds.{changed_thresholds}
+use Rattle.fsrm_model.specs.objects.Templates.{is_template}
+use Rattle.fsrm_model.specs.objects.Thresholds.{changed_thresholds}
 use Rattle.templates.specs.Faults.{template_fault}
 use Rattle.fsrm_model.specs.declared.row.Threshold.{Threshold}
 use Rattle.fsrm_model.proofs.commands.ValueParts.{new_template_parts}

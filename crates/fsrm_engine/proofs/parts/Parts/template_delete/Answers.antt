@@ -3,7 +3,7 @@ use Rattle.std.specs.Prelude.{map}
 use Rattle.std.specs.Option.{option_copied}
 use Rattle.fsrm_model.specs.declared.command.Deed.TheVariants.{Template}
 use Rattle.fsrm_model.specs.declared.command.TemplateDeed.TheVariants.{Delete as TemplateDelete}
-use Rattle.fsrm_model.specs.Templates.{template_named, without_source}
+use Rattle.fsrm_model.specs.objects.Templates.{template_named, without_source}
 use Rattle.fsrm_objects.specs.Tables.{Tables}
 use Rattle.templates.specs.Held.{Held}
 use Rattle.fsrm_engine.specs.Machine.{Does, ended}

@@ -5,8 +5,8 @@ use Rattle.fsrm_model.specs.declared.command.Answer.{Answer}
 use Rattle.fsrm_model.specs.declared.command.Deed.TheVariants.{Template}
 use Rattle.fsrm_model.specs.declared.command.TemplateDeed.TheVariants.{Modify as TemplateModify}
 use Rattle.fsrm_model.specs.declared.row.Threshold.{Threshold}
-use Rattle.fsrm_model.specs.Templates.{template_named}
-use Rattle.fsrm_model.specs.Thresholds.{are_too_many, may_be_removed}
+use Rattle.fsrm_model.specs.objects.Templates.{template_named}
+use Rattle.fsrm_model.specs.objects.Thresholds.{are_too_many, may_be_removed}
 use Rattle.fsrm_model.proofs.valid.TemplatesKept.{template_parts}
 use Rattle.fsrm_objects.specs.Tables.{Tables}
 use Rattle.templates.specs.Faults.{modify_fault}

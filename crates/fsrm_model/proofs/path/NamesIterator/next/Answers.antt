@@ -1,6 +1,6 @@
 use Rattle.std.proofs.Common.{◌≡◌, [], length, ap, arith, rules}
 use Rattle.std.proofs.lemmas.List.{nil_from_length}
-use Rattle.fsrm_model.specs.PathNames.{parts_of, left}
+use Rattle.fsrm_model.specs.meaning.PathNames.{parts_of, left}
 use Rattle.fsrm_model.proofs.path.NamesIterator.next.Goals as goal
 
 pub returns-then-is_empty-clause-steps : goal.returns-then-is_empty-clause-steps

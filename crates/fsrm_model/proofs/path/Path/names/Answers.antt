@@ -1,7 +1,7 @@
 use Rattle.std.proofs.Common.{◌∙◌, ap}
 use Rattle.std.specs.List.{list_all}
-use Rattle.fsrm_model.specs.Name.{is_name}
-use Rattle.fsrm_model.specs.PathNames.{parts_of, left}
+use Rattle.fsrm_model.specs.values.Name.{is_name}
+use Rattle.fsrm_model.specs.meaning.PathNames.{parts_of, left}
 use Rattle.fsrm_model.proofs.path.Path.names.Goals as goal
 
 pub returns-clause-names : goal.returns-clause-names

@@ -1,7 +1,7 @@
 use Rattle.std.proofs.Common.{◌≡◌, false, List, insert, map, sym, ◌∙◌, ap, subst}
 use Rattle.fsrm_model.specs.declared.row.ExceptRow.{ExceptRow}
-use Rattle.fsrm_model.specs.Limits.{most_excepts}
-use Rattle.fsrm_model.specs.Screens.{except_folder}
+use Rattle.fsrm_model.specs.values.Limits.{most_excepts}
+use Rattle.fsrm_model.specs.objects.Screens.{except_folder}
 use Rattle.fsrm_base.proofs.SortedRows.{insert_row}
 use Rattle.fsrm_objects.specs.PlaceTables.{Places}
 use Rattle.fsrm_objects.proofs.RowPlaces.{gap_row, has_number, numbers_inserted}

@@ -1,9 +1,9 @@
 use Rattle.std.proofs.Common.{◌≡◌, ◌≤◌, nat_le, true, false, List, insert, map, sym, ◌∙◌, ap, subst, arith}
 use Rattle.fsrm_model.specs.declared.row.ScreenRow.{ScreenRow}
-use Rattle.fsrm_model.specs.Limits.{most_quotas, most_screens}
-use Rattle.fsrm_model.specs.Quota.{folder_of}
-use Rattle.fsrm_model.specs.Screens.{screen_folder}
-use Rattle.fsrm_model.specs.Texts.{quota_bytes}
+use Rattle.fsrm_model.specs.values.Limits.{most_quotas, most_screens}
+use Rattle.fsrm_model.specs.objects.Quota.{folder_of}
+use Rattle.fsrm_model.specs.objects.Screens.{screen_folder}
+use Rattle.fsrm_model.specs.values.Texts.{quota_bytes}
 use Rattle.fsrm_base.proofs.SortedRows.{insert_row}
 use Rattle.fsrm_objects.specs.PlaceTables.{Places}
 use Rattle.fsrm_objects.proofs.RowPlaces.{gap_row, has_number, numbers_inserted}

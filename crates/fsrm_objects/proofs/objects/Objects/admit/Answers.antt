@@ -1,5 +1,5 @@
 use Rattle.std.proofs.Common.{sym, ◌∙◌}
-use Rattle.fsrm_model.specs.Quota.{folder_of}
+use Rattle.fsrm_model.specs.objects.Quota.{folder_of}
 use Rattle.fsrm_objects.proofs.FaultLaws.{taken_due}
 use Rattle.fsrm_objects.proofs.HeldRows.{is_taken}
 use Rattle.fsrm_objects.proofs.objects.Objects.admit.Goals as goal

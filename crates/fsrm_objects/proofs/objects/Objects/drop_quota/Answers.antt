@@ -1,8 +1,8 @@
 use Rattle.std.proofs.Common.{◌≡◌, true, map, List, sym, ◌∙◌, ap, subst, arith}
 use Rattle.fsrm_model.specs.declared.row.QuotaRow.{QuotaRow}
-use Rattle.fsrm_model.specs.Limits.{most_quotas}
-use Rattle.fsrm_model.specs.Quota.{folder_of}
-use Rattle.fsrm_model.specs.Texts.{quota_bytes}
+use Rattle.fsrm_model.specs.values.Limits.{most_quotas}
+use Rattle.fsrm_model.specs.objects.Quota.{folder_of}
+use Rattle.fsrm_model.specs.values.Texts.{quota_bytes}
 use Rattle.fsrm_base.specs.Keyed.{has_row}
 use Rattle.fsrm_objects.specs.PlaceTables.{Places}
 use Rattle.fsrm_objects.proofs.RowPlaces.{has_number, numbers_removed}

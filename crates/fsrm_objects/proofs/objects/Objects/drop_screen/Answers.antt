@@ -1,7 +1,7 @@
 use Rattle.std.proofs.Common.{◌≡◌, true, map, List, sym, ◌∙◌, ap, subst, arith}
 use Rattle.fsrm_model.specs.declared.row.ScreenRow.{ScreenRow}
-use Rattle.fsrm_model.specs.Limits.{most_screens}
-use Rattle.fsrm_model.specs.Screens.{screen_folder}
+use Rattle.fsrm_model.specs.values.Limits.{most_screens}
+use Rattle.fsrm_model.specs.objects.Screens.{screen_folder}
 use Rattle.fsrm_base.specs.Keyed.{has_row}
 use Rattle.fsrm_objects.specs.PlaceTables.{Places}
 use Rattle.fsrm_objects.proofs.RowPlaces.{has_number, numbers_removed}

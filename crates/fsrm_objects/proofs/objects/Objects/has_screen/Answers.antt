@@ -1,5 +1,5 @@
 use Rattle.std.proofs.Common.{sym, ◌∙◌}
-use Rattle.fsrm_model.specs.Screens.{screen_folder}
+use Rattle.fsrm_model.specs.objects.Screens.{screen_folder}
 use Rattle.fsrm_objects.proofs.HeldRows.{is_taken}
 use Rattle.fsrm_objects.proofs.objects.Objects.has_screen.Goals as goal
 

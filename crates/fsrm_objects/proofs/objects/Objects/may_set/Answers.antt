@@ -1,6 +1,6 @@
 use Rattle.std.proofs.Common.{◌+◌, ◌<◌, ◌≤◌, sym, ◌∙◌, ap, arith}
-use Rattle.fsrm_model.specs.Quota.{folder_of}
-use Rattle.fsrm_model.specs.Texts.{quota_bytes}
+use Rattle.fsrm_model.specs.objects.Quota.{folder_of}
+use Rattle.fsrm_model.specs.values.Texts.{quota_bytes}
 use Rattle.fsrm_objects.specs.Tables.{Tables, other_fault}
 use Rattle.fsrm_objects.proofs.FaultLaws.{replaced_due, replaced_fits}
 use Rattle.fsrm_objects.proofs.HeldRows.{at_place, read_found, tables_of}

@@ -1,5 +1,5 @@
 use Rattle.std.proofs.Common.{◌+◌, ◌<◌, ◌≤◌, sym, ◌∙◌, ap, arith}
-use Rattle.fsrm_model.specs.Screens.{screen_folder}
+use Rattle.fsrm_model.specs.objects.Screens.{screen_folder}
 use Rattle.fsrm_objects.specs.Tables.{Tables, other_screen_fault, screen_bytes}
 use Rattle.fsrm_objects.proofs.FaultLaws.{screen_replaced_due, screen_replaced_fits}
 use Rattle.fsrm_objects.proofs.HeldRows.{at_place, read_found, tables_of}

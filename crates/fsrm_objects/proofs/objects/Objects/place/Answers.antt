@@ -1,7 +1,7 @@
 use Rattle.std.proofs.Common.{◌≡◌, false, MatchOption, subst}
 use Rattle.fsrm_base.specs.Keyed.{has_row}
 use Rattle.fsrm_base.specs.Places.{IsAt}
-use Rattle.fsrm_model.specs.Quota.{folder_of}
+use Rattle.fsrm_model.specs.objects.Quota.{folder_of}
 use Rattle.fsrm_objects.specs.Tables.{Tables}
 use Rattle.fsrm_objects.proofs.RowPlaces.{found_row}
 use Rattle.fsrm_objects.proofs.objects.Objects.place.Goals as goal

@@ -2,7 +2,7 @@ use Rattle.std.proofs.Common.{sym, ◌∙◌, ap, subst}
 use Rattle.std.specs.Option.{option_copied}
 use Rattle.fsrm_base.specs.Keyed.{row_of}
 use Rattle.fsrm_base.specs.Places.{IsAt}
-use Rattle.fsrm_model.specs.Screens.{screen_folder}
+use Rattle.fsrm_model.specs.objects.Screens.{screen_folder}
 use Rattle.fsrm_objects.specs.Tables.{Tables}
 use Rattle.fsrm_objects.proofs.HeldRows.{none_found, read_found}
 use Rattle.fsrm_objects.proofs.objects.Objects.screen.Goals as goal

@@ -1,8 +1,8 @@
 use Rattle.std.proofs.Common.{◌+◌, List, refl, sym, ◌∙◌, ap}
 use Rattle.fsrm_model.specs.declared.row.QuotaRow.{QuotaRow}
-use Rattle.fsrm_model.specs.Limits.{most_quotas}
-use Rattle.fsrm_model.specs.Quota.{folder_of}
-use Rattle.fsrm_model.specs.Texts.{quota_bytes}
+use Rattle.fsrm_model.specs.values.Limits.{most_quotas}
+use Rattle.fsrm_model.specs.objects.Quota.{folder_of}
+use Rattle.fsrm_model.specs.values.Texts.{quota_bytes}
 use Rattle.fsrm_objects.specs.Kept.{most_quota_bytes}
 use Rattle.fsrm_objects.specs.Tables.{Tables, peaked_at, with_peak, screen_texts}
 use Rattle.fsrm_objects.proofs.HeldRows.{at_place, same_small, same_texts, tables_of}

@@ -1,10 +1,10 @@
 use Rattle.std.proofs.Common.{◌+◌, ◌<◌, List, length, sym, ◌∙◌, ap, subst}
 use Rattle.fsrm_base.specs.Keyed.{is_ascending}
 use Rattle.fsrm_model.specs.declared.row.QuotaRow.{QuotaRow}
-use Rattle.fsrm_model.specs.Limits.{most_quotas}
-use Rattle.fsrm_model.specs.Quota.{folder_of}
-use Rattle.fsrm_model.specs.Texts.{quota_bytes}
-use Rattle.fsrm_model.specs.Thresholds.{percent_of, actions_at}
+use Rattle.fsrm_model.specs.values.Limits.{most_quotas}
+use Rattle.fsrm_model.specs.objects.Quota.{folder_of}
+use Rattle.fsrm_model.specs.values.Texts.{quota_bytes}
+use Rattle.fsrm_model.specs.objects.Thresholds.{percent_of, actions_at}
 use Rattle.fsrm_objects.specs.Kept.{most_quota_bytes}
 use Rattle.fsrm_objects.specs.Tables.{Tables, run_quota_at, screen_texts, with_run}
 use Rattle.fsrm_objects.proofs.HeldRows.{at_place, has_place, read_own, same_small, same_texts, tables_of}

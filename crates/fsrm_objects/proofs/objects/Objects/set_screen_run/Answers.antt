@@ -1,7 +1,7 @@
 use Rattle.std.proofs.Common.{◌+◌, ◌<◌, List, length, sym, ◌∙◌, ap, subst}
 use Rattle.fsrm_model.specs.declared.row.ScreenRow.{ScreenRow}
-use Rattle.fsrm_model.specs.Limits.{most_screens}
-use Rattle.fsrm_model.specs.Screens.{screen_folder}
+use Rattle.fsrm_model.specs.values.Limits.{most_screens}
+use Rattle.fsrm_model.specs.objects.Screens.{screen_folder}
 use Rattle.fsrm_objects.specs.Kept.{most_screen_bytes}
 use Rattle.fsrm_objects.specs.Tables.{Tables, quota_texts, run_screen_at, screen_bytes, with_screen_run}
 use Rattle.fsrm_objects.proofs.HeldRows.{at_place, has_place, read_own, same_small, same_texts, tables_of}

@@ -1,6 +1,6 @@
 -- The row says the same of its node, but for what is set.
 use Rattle.std.proofs.Common.{◌≡◌, ℕ, false, List, refl, ◌∙◌, ap}
-use Rattle.fsrm_model.specs.FileOps.{touched}
+use Rattle.fsrm_model.specs.nodes.FileOps.{touched}
 use Rattle.node_table.specs.declared.row.Row.{Row}
 use Rattle.node_table.specs.Kept.{table_of}
 use Rattle.node_table.specs.Rows.{empty_row, is_empty, key_of, row_at, row_in}

@@ -1,7 +1,7 @@
 -- The old name's key is released before the new name is stored.
 use Rattle.std.proofs.Common.{◌≡◌, ◌+◌, ◌<◌, ◌≤◌, false, None, Some, sym, ◌∙◌, ap, subst, length}
-use Rattle.fsrm_model.specs.FileOps.{placed}
-use Rattle.fsrm_model.specs.Tree.{name_bytes}
+use Rattle.fsrm_model.specs.nodes.FileOps.{placed}
+use Rattle.fsrm_model.specs.nodes.Tree.{name_bytes}
 use Rattle.name_region.specs.Contents.{Contents, is_live, live_count, text_of, used, with_text}
 use Rattle.node_table.specs.declared.row.Row.{Row}
 use Rattle.node_table.specs.Kept.{name_under, table_of}

@@ -1,7 +1,7 @@
 use Rattle.std.proofs.Common.{◌≡◌, ◌<◌, false, List, length, sym, ◌∙◌, ap, subst, arith}
 use Rattle.fsrm_base.specs.Keyed.{has_row}
 use Rattle.fsrm_base.proofs.SortedRows.{insert_row}
-use Rattle.fsrm_model.specs.Limits.{most_quotas}
+use Rattle.fsrm_model.specs.values.Limits.{most_quotas}
 use Rattle.fsrm_objects.proofs.RowPlaces.{gap_row, has_number}
 use Rattle.quota_usage.specs.Counters.{counted, with_counter}
 use Rattle.quota_usage.specs.declared.change.Counter.{Counter}

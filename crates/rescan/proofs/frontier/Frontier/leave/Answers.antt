@@ -2,10 +2,10 @@ use Rattle.std.proofs.Common.{◌≡◌, ◌+◌, ◌<◌, ◌-◌, List, ℕ, [
 use Rattle.std.specs.Prelude.{drop, is_some, sum_by}
 use Rattle.fsrm_base.proofs.TestLaws.{clash}
 use Rattle.rescan.specs.Frontiers.{Front}
-use Rattle.fsrm_model.specs.Capacities.{is_cluster}
+use Rattle.fsrm_model.specs.store.Capacities.{is_cluster}
 use Rattle.fsrm_base.specs.Numbers.{with_number, without_number, with_numbers}
-use Rattle.fsrm_model.specs.Space.{space}
-use Rattle.fsrm_model.specs.Tree.{children}
+use Rattle.fsrm_model.specs.values.Space.{space}
+use Rattle.fsrm_model.specs.nodes.Tree.{children}
 use Rattle.number_set.proofs.TakenLaws.{first_in, none_first, taken_is}
 use Rattle.rescan.specs.Visits.{folders_in}
 use Rattle.rescan.proofs.moved.Ahead.{ahead, top_ahead, open_ahead, whole_ahead}

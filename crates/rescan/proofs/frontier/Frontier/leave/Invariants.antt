@@ -1,5 +1,5 @@
 use Rattle.std.proofs.Common.{◌≡◌, ◌+◌, ◌*◌, ◌≤◌, length}
-use Rattle.fsrm_model.specs.Tree.{under}
+use Rattle.fsrm_model.specs.nodes.Tree.{under}
 use Rattle.rescan.proofs.moved.Ahead.{ahead}
 use Rattle.rescan.proofs.moved.Leaving.{Leaving}
 use Rattle.rescan.proofs.frontier.Frontier.leave.Given as goal

@@ -1,7 +1,7 @@
 use Rattle.std.proofs.Common.{◌≡◌, ◌==◌, ℕ, true, false, length, refl, sym, ◌∙◌, ap, subst, arith}
-use Rattle.fsrm_model.specs.Capacities.{is_capacity}
+use Rattle.fsrm_model.specs.store.Capacities.{is_capacity}
 use Rattle.fsrm_base.specs.Keyed.{has_row}
-use Rattle.fsrm_model.specs.Tree.{number, parent_of, chain}
+use Rattle.fsrm_model.specs.nodes.Tree.{number, parent_of, chain}
 use Rattle.fsrm_model.proofs.nodes.Climbs.{shorter}
 use Rattle.fsrm_model.proofs.nodes.Keeps.{tree_of}
 use Rattle.fsrm_base.proofs.Look.{has_found}

@@ -1,7 +1,7 @@
 use Rattle.std.proofs.Common.{◌≡◌, ◌+◌, ◌-◌, true, sym, ◌∙◌, ap, subst, arith, rules}
 use denote.Enum.Bare.{same_true}
-use Rattle.fsrm_model.specs.Capacities.{is_capacity}
-use Rattle.fsrm_model.specs.Space.{alloc, rounded}
+use Rattle.fsrm_model.specs.store.Capacities.{is_capacity}
+use Rattle.fsrm_model.specs.values.Space.{alloc, rounded}
 use Rattle.fsrm_base.proofs.TestLaws.{clash}
 use Rattle.rescan.specs.contracts.frontier.Frontier.{the_view}
 use Rattle.rescan.specs.contracts.standing.Standing.{the_type as standing_type}

@@ -1,7 +1,7 @@
 use Rattle.std.proofs.Common.{◌≡◌, ◌+◌, length}
 use Rattle.std.specs.List.{list_any}
 use Rattle.fsrm_base.specs.Numbers.{is_in}
-use Rattle.fsrm_model.specs.Tree.{chain, is_under}
+use Rattle.fsrm_model.specs.nodes.Tree.{chain, is_under}
 use Rattle.fsrm_model.proofs.nodes.Climbs.{IsUp}
 use Rattle.rescan.specs.Frontiers.{scanned, has_above}
 use Rattle.rescan.proofs.frontier.Frontier.standing.Given as goal

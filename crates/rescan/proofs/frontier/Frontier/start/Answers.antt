@@ -1,5 +1,5 @@
 use Rattle.std.proofs.Common.{rules, sym, subst}
-use Rattle.fsrm_model.specs.Scan.{folders_under}
+use Rattle.fsrm_model.specs.objects.Scan.{folders_under}
 use Rattle.rescan.specs.Frontiers.{Front, Follows}
 use Rattle.rescan.proofs.followed.FrontierLaws.{begins}
 use Rattle.rescan.proofs.frontier.Frontier.start.Goals as goal

@@ -1,7 +1,7 @@
 use Rattle.std.proofs.Common.{◌≡◌, ◌+◌, ◌<◌, true, List, ℕ, [], ◌∷◌, sym, ◌∙◌, ap, subst, arith}
 use Rattle.fsrm_base.specs.Numbers.{with_number, without_number, with_numbers}
-use Rattle.fsrm_model.specs.Capacities.{is_capacity}
-use Rattle.fsrm_model.specs.Tree.{usage}
+use Rattle.fsrm_model.specs.store.Capacities.{is_capacity}
+use Rattle.fsrm_model.specs.nodes.Tree.{usage}
 use Rattle.number_set.specs.Numbers.{Numbers}
 use Rattle.number_set.proofs.TakenLaws.{first_in, none_first, taken_is}
 use Rattle.rescan.specs.Frontiers.{Front}

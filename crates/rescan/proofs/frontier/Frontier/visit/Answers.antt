@@ -1,7 +1,7 @@
 use Rattle.std.proofs.Common.{◌≡◌, Some, None, ◌∙◌, ap, sym, subst, arith}
 use Rattle.std.specs.Prelude.{slice_get}
 use Rattle.fsrm_base.specs.Numbers.{is_set}
-use Rattle.fsrm_model.specs.Scan.{visit}
+use Rattle.fsrm_model.specs.objects.Scan.{visit}
 use Rattle.number_set.specs.Numbers.{Numbers}
 use Rattle.number_set.proofs.TakenLaws.{none_taken, taken_is}
 use Rattle.rescan.specs.Frontiers.{Follows, Front, unvisited}

@@ -1,8 +1,8 @@
 use Rattle.std.proofs.Common.{◌≡◌, ℕ, ◌<◌, true, Option, Some, sym, ◌∙◌, ap, subst, arith}
 use Rattle.std.specs.Prelude.{is_some, unwrap_or}
 use Rattle.fsrm_base.specs.Numbers.{is_in, without_number}
-use Rattle.fsrm_model.specs.QuotaStates.{head}
-use Rattle.fsrm_model.specs.Tree.{usage}
+use Rattle.fsrm_model.specs.objects.QuotaStates.{head}
+use Rattle.fsrm_model.specs.nodes.Tree.{usage}
 use Rattle.rescan.specs.Frontiers.{Front}
 use Rattle.rescan.specs.Beginnings.{Begins}
 use Rattle.rescan.specs.Courses.{Course, Scanning, Turns}

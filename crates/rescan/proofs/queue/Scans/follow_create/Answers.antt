@@ -1,7 +1,7 @@
 use Rattle.std.proofs.Common.{◌≡◌, true, refl, sym, ◌∙◌, ap, subst}
 use Rattle.std.specs.Prelude.{is_some}
-use Rattle.fsrm_model.specs.QuotaStates.{head}
-use Rattle.fsrm_model.specs.Tree.{number}
+use Rattle.fsrm_model.specs.objects.QuotaStates.{head}
+use Rattle.fsrm_model.specs.nodes.Tree.{number}
 use Rattle.fsrm_model.proofs.nodes.Keeps.{found_folder}
 use Rattle.fsrm_base.proofs.Look.{has_found}
 use Rattle.rescan.specs.Frontiers.{unvisited}

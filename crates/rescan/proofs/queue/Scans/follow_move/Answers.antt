@@ -1,8 +1,8 @@
 use Rattle.std.proofs.Common.{◌≡◌, true, refl, sym, ◌∙◌, ap, subst}
 use Rattle.std.specs.Prelude.{is_some}
-use Rattle.fsrm_model.specs.FileOps.{placed}
-use Rattle.fsrm_model.specs.QuotaStates.{head}
-use Rattle.fsrm_model.specs.Scan.{unvisited_moved}
+use Rattle.fsrm_model.specs.nodes.FileOps.{placed}
+use Rattle.fsrm_model.specs.objects.QuotaStates.{head}
+use Rattle.fsrm_model.specs.objects.Scan.{unvisited_moved}
 use Rattle.fsrm_model.proofs.nodes.Keeps.{folder-change}
 use Rattle.rescan.specs.Frontiers.{unvisited}
 use Rattle.volume_tree.specs.Volume.{with_place}

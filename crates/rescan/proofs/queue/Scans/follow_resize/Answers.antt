@@ -1,9 +1,9 @@
 use Rattle.std.proofs.Common.{◌≡◌, ◌≤◌, true, refl, sym, ◌∙◌, ap, subst}
 use Rattle.std.specs.Prelude.{is_some}
-use Rattle.fsrm_model.specs.FileOps.{resized}
-use Rattle.fsrm_model.specs.Limits.{longest_file}
-use Rattle.fsrm_model.specs.QuotaStates.{head}
-use Rattle.fsrm_model.specs.Tree.{number}
+use Rattle.fsrm_model.specs.nodes.FileOps.{resized}
+use Rattle.fsrm_model.specs.values.Limits.{longest_file}
+use Rattle.fsrm_model.specs.objects.QuotaStates.{head}
+use Rattle.fsrm_model.specs.nodes.Tree.{number}
 use Rattle.fsrm_model.proofs.nodes.Keeps.{folder-change}
 use Rattle.fsrm_base.proofs.Look.{has_found}
 use Rattle.rescan.specs.Frontiers.{unvisited}

@@ -1,7 +1,7 @@
 use Rattle.std.proofs.Common.{◌≡◌, true, refl, sym, ◌∙◌, ap, subst}
 use Rattle.std.specs.Prelude.{is_some}
 use Rattle.fsrm_base.specs.Numbers.{is_in, without_number}
-use Rattle.fsrm_model.specs.QuotaStates.{head}
+use Rattle.fsrm_model.specs.objects.QuotaStates.{head}
 use Rattle.fsrm_model.proofs.nodes.Keeps.{found_folder}
 use Rattle.rescan.specs.Frontiers.{unvisited}
 use Rattle.volume_tree.specs.Volume.{without_node}

@@ -1,7 +1,7 @@
 use Rattle.std.proofs.Common.{◌≡◌, ◌<◌, Some, sym, ◌∙◌, ap, subst, arith, rules}
 use Rattle.std.proofs.lemmas.Fn.{filter_same}
 use Rattle.fsrm_base.specs.Numbers.{is_in, without_number}
-use Rattle.fsrm_model.specs.QuotaStates.{head}
+use Rattle.fsrm_model.specs.objects.QuotaStates.{head}
 use Rattle.rescan.specs.Frontiers.{Front}
 use Rattle.rescan.specs.Beginnings.{Begins}
 use Rattle.rescan.specs.Courses.{Course, Scanning, Turns}

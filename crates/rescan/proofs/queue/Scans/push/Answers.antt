@@ -2,8 +2,8 @@ use Rattle.std.proofs.Common.{◌≡◌, ◌<◌, false, None, length, sym, ◌�
 use Rattle.std.proofs.lemmas.Option.{same_Some}
 use Rattle.std.specs.Prelude.{is_some}
 use Rattle.fsrm_base.specs.Numbers.{is_in}
-use Rattle.fsrm_model.specs.Limits.{most_quotas}
-use Rattle.fsrm_model.specs.QuotaStates.{head}
+use Rattle.fsrm_model.specs.values.Limits.{most_quotas}
+use Rattle.fsrm_model.specs.objects.QuotaStates.{head}
 use Rattle.fsrm_base.proofs.Look.{none_row}
 use Rattle.rescan.specs.Courses.{Course, Scanning, Turns}
 use Rattle.rescan.proofs.queued.Turning.{kept_pushed, kept_alone, turned_alone, unturned_pushed}

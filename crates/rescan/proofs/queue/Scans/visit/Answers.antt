@@ -1,5 +1,5 @@
 use Rattle.std.proofs.Common.{refl, sym}
-use Rattle.fsrm_model.specs.Scan.{visits}
+use Rattle.fsrm_model.specs.objects.Scan.{visits}
 use Rattle.rescan.specs.Courses.{left}
 use Rattle.rescan.proofs.queued.Following.{goes_idle}
 use Rattle.rescan.proofs.queue.Scans.visit.Goals as goal

@@ -1,8 +1,8 @@
 use Rattle.std.proofs.Common.{List, ℕ, ◌≡◌, ◌<◌, false, length, sym, ◌∙◌, ap, subst}
 use Rattle.fsrm_base.specs.Keyed.{has_row, least_free}
 use Rattle.fsrm_model.specs.declared.row.TemplateRow.{TemplateRow}
-use Rattle.fsrm_model.specs.Limits.{most_templates}
-use Rattle.fsrm_model.specs.Templates.{template_number}
+use Rattle.fsrm_model.specs.values.Limits.{most_templates}
+use Rattle.fsrm_model.specs.objects.Templates.{template_number}
 use Rattle.templates.specs.Held.{Held}
 use Rattle.templates.proofs.FaultLaws.{Admitted, admitted}
 use Rattle.templates.proofs.HeldLaws.{free_absent, free_below, held_of}

@@ -1,7 +1,7 @@
 use Rattle.std.proofs.Common.{List, ℕ, ◌≤◌, true, false, sym, ◌∙◌, ap, length, arith}
 use Rattle.std.specs.Prelude.{option_map}
-use Rattle.fsrm_model.specs.Templates.{template_named, template_number}
-use Rattle.fsrm_model.specs.Texts.{template_bytes}
+use Rattle.fsrm_model.specs.objects.Templates.{template_named, template_number}
+use Rattle.fsrm_model.specs.values.Texts.{template_bytes}
 use Rattle.templates.specs.Held.{Held}
 use Rattle.templates.proofs.FaultLaws.{duplicate_due, named_as, none_due, table_due, texts_due}
 use Rattle.templates.proofs.PartLaws.{new_fits}

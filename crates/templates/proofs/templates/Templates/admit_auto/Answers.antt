@@ -1,8 +1,8 @@
 use Rattle.std.proofs.Common.{◌≡◌, ◌≤◌, true, sym, ◌∙◌, ap, subst, arith, List}
 use Rattle.fsrm_base.specs.Keyed.{has_row}
 use Rattle.fsrm_model.specs.declared.row.AutoRow.{AutoRow}
-use Rattle.fsrm_model.specs.AutoApply.{auto_folder}
-use Rattle.fsrm_model.specs.Texts.{auto_bytes}
+use Rattle.fsrm_model.specs.objects.AutoApply.{auto_folder}
+use Rattle.fsrm_model.specs.values.Texts.{auto_bytes}
 use Rattle.templates.specs.Held.{Held}
 use Rattle.templates.proofs.FaultLaws.{taken_due}
 use Rattle.templates.proofs.HeldLaws.{searched_has}

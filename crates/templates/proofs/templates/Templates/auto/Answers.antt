@@ -1,7 +1,7 @@
 use Rattle.std.proofs.Common.{sym, ◌∙◌, ap, subst}
 use Rattle.std.specs.Option.{option_copied}
 use Rattle.fsrm_base.specs.Keyed.{row_of}
-use Rattle.fsrm_model.specs.AutoApply.{auto_folder}
+use Rattle.fsrm_model.specs.objects.AutoApply.{auto_folder}
 use Rattle.templates.specs.Held.{Held}
 use Rattle.templates.proofs.HeldLaws.{SourceIsThere, held_of, source_there, searched_none, searched_some}
 use Rattle.templates.proofs.templates.Templates.auto.Goals as goal

@@ -2,7 +2,7 @@ use Rattle.std.proofs.Common.{◌≡◌, ◌==◌, false, ◌-◌, List, sym, �
 use Rattle.std.specs.List.{list_any}
 use Rattle.fsrm_base.proofs.SortedRows.{remove_found}
 use Rattle.fsrm_model.specs.declared.row.TemplateRow.{TemplateRow}
-use Rattle.fsrm_model.specs.Templates.{template_number}
+use Rattle.fsrm_model.specs.objects.Templates.{template_number}
 use Rattle.templates.specs.Held.{Held, without_template}
 use Rattle.templates.specs.Kept.{AreHeld}
 use Rattle.templates.proofs.HeldLaws.{at_place, held_of, less_are}

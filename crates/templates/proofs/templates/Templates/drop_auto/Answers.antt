@@ -1,6 +1,6 @@
 use Rattle.std.proofs.Common.{◌-◌, List, sym, ◌∙◌, ap, subst}
 use Rattle.fsrm_model.specs.declared.row.AutoRow.{AutoRow}
-use Rattle.fsrm_model.specs.AutoApply.{auto_folder}
+use Rattle.fsrm_model.specs.objects.AutoApply.{auto_folder}
 use Rattle.fsrm_base.proofs.SortedRows.{remove_found}
 use Rattle.templates.specs.Held.{Held, without_auto}
 use Rattle.templates.specs.Kept.{AreHeld}

@@ -2,7 +2,7 @@ use Rattle.std.proofs.Common.{List, ℕ, Option, ◌≡◌, true, refl, sym, ◌
 use Rattle.std.specs.Prelude.{IfSome, option_map}
 use Rattle.fsrm_model.specs.declared.row.TemplateRow.{TemplateRow}
 use Rattle.fsrm_base.specs.Keyed.{has_row}
-use Rattle.fsrm_model.specs.Templates.{template_named, template_number}
+use Rattle.fsrm_model.specs.objects.Templates.{template_named, template_number}
 use Rattle.templates.specs.Held.{Held}
 use Rattle.templates.proofs.HeldLaws.{found_there, held_of}
 use Rattle.templates.proofs.templates.Templates.find.Goals as goal

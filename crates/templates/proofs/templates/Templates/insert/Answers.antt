@@ -3,10 +3,10 @@ use Rattle.std.specs.List.{list_any}
 use Rattle.fsrm_base.specs.Places.{IsGap}
 use Rattle.fsrm_base.proofs.SortedRows.{insert_row}
 use Rattle.fsrm_model.specs.declared.row.TemplateRow.{TemplateRow}
-use Rattle.fsrm_model.specs.Limits.{most_templates}
-use Rattle.fsrm_model.specs.Name.{is_named}
-use Rattle.fsrm_model.specs.Templates.{template_name, template_number}
-use Rattle.fsrm_model.specs.Texts.{template_bytes}
+use Rattle.fsrm_model.specs.values.Limits.{most_templates}
+use Rattle.fsrm_model.specs.values.Name.{is_named}
+use Rattle.fsrm_model.specs.objects.Templates.{template_name, template_number}
+use Rattle.fsrm_model.specs.values.Texts.{template_bytes}
 use Rattle.templates.specs.Held.{Held, with_template}
 use Rattle.templates.specs.Kept.{AreHeld}
 use Rattle.templates.proofs.HeldLaws.{held_of, more_are}

@@ -3,10 +3,10 @@ use Rattle.fsrm_base.specs.Keyed.{has_row}
 use Rattle.fsrm_base.specs.Places.{IsGap}
 use Rattle.fsrm_base.proofs.SortedRows.{insert_row}
 use Rattle.fsrm_model.specs.declared.row.AutoRow.{AutoRow}
-use Rattle.fsrm_model.specs.AutoApply.{auto_folder}
-use Rattle.fsrm_model.specs.Limits.{most_autos}
-use Rattle.fsrm_model.specs.Templates.{template_number}
-use Rattle.fsrm_model.specs.Texts.{auto_bytes}
+use Rattle.fsrm_model.specs.objects.AutoApply.{auto_folder}
+use Rattle.fsrm_model.specs.values.Limits.{most_autos}
+use Rattle.fsrm_model.specs.objects.Templates.{template_number}
+use Rattle.fsrm_model.specs.values.Texts.{auto_bytes}
 use Rattle.templates.specs.Held.{Held, with_auto}
 use Rattle.templates.specs.Kept.{AreHeld}
 use Rattle.templates.proofs.HeldLaws.{auto_more, held_of}

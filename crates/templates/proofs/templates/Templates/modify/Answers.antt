@@ -3,8 +3,8 @@ use Rattle.std.specs.Prelude.{IfErr, Option, Some, filter, option_map}
 use Rattle.std.specs.Option.{option_map_or}
 use Rattle.fsrm_base.specs.Keyed.{has_row, is_ascending}
 use Rattle.fsrm_model.specs.declared.row.TemplateRow.{TemplateRow}
-use Rattle.fsrm_model.specs.Templates.{is_reached, template_name, template_number, template_of}
-use Rattle.fsrm_model.specs.TemplateWork.{updated_quotas}
+use Rattle.fsrm_model.specs.objects.Templates.{is_reached, template_name, template_number, template_of}
+use Rattle.fsrm_model.specs.commands.TemplateWork.{updated_quotas}
 use Rattle.templates.specs.Faults.{IsFault, modify_fault, update_fault}
 use Rattle.templates.specs.Held.{Held}
 use Rattle.templates.proofs.FaultLaws.{update_due}

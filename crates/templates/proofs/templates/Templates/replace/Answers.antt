@@ -3,8 +3,8 @@ use Rattle.std.specs.Prelude.{option_map, slice_set}
 use Rattle.fsrm_base.specs.Keyed.{has_row}
 use Rattle.fsrm_base.proofs.SortedRows.{set_found}
 use Rattle.fsrm_model.specs.declared.row.TemplateRow.{TemplateRow}
-use Rattle.fsrm_model.specs.Templates.{template_name, template_number, template_of}
-use Rattle.fsrm_model.specs.Texts.{template_bytes}
+use Rattle.fsrm_model.specs.objects.Templates.{template_name, template_number, template_of}
+use Rattle.fsrm_model.specs.values.Texts.{template_bytes}
 use Rattle.templates.specs.Held.{Held, with_other}
 use Rattle.templates.proofs.HeldLaws.{at_place, held_of, named_there, old_valid, other_are, searched_has}
 use Rattle.templates.proofs.PartLaws.{template_fits, texts_most}

@@ -1,6 +1,6 @@
 use Rattle.std.proofs.Common.{sym, ◌∙◌, ap}
 use Rattle.std.specs.Option.{option_copied}
-use Rattle.fsrm_model.specs.Templates.{template_number, template_of}
+use Rattle.fsrm_model.specs.objects.Templates.{template_number, template_of}
 use Rattle.templates.specs.Held.{Held}
 use Rattle.templates.proofs.HeldLaws.{searched_none, searched_some}
 use Rattle.templates.proofs.templates.Templates.template.Goals as goal

@@ -1,6 +1,6 @@
 use Rattle.std.proofs.Common.{sym}
 use Rattle.fsrm_base.specs.Keyed.{row_of}
-use Rattle.fsrm_model.specs.AutoApply.{auto_folder}
+use Rattle.fsrm_model.specs.objects.AutoApply.{auto_folder}
 use Rattle.templates.proofs.HeldLaws.{source_of}
 use Rattle.templates.proofs.templates.Templates.template_for.Goals as goal
 

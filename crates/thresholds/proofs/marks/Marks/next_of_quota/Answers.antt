@@ -1,7 +1,7 @@
 use Rattle.std.proofs.Common.{◌≡◌, [], ◌∷◌, MatchOption, is_some, sym, ◌∙◌, ap, subst}
 use Rattle.std.specs.List.{list_all}
 use Rattle.fsrm_model.specs.declared.command.Act.{Act}
-use Rattle.fsrm_model.specs.Acts.{act_before}
+use Rattle.fsrm_model.specs.objects.Acts.{act_before}
 use Rattle.number_set.specs.Numbers.{Numbers}
 use Rattle.thresholds.specs.Marked.{Marked, act_at, are_there, waiting}
 use Rattle.thresholds.proofs.KeptLaws.{less_kept}

@@ -1,7 +1,7 @@
 use Rattle.std.proofs.Common.{[], ◌∷◌, ◌++◌, ◌∙◌, ap, arith}
 use Rattle.fsrm_base.specs.Numbers.{with_number}
 use Rattle.fsrm_model.specs.declared.row.ActRow.{ActRow}
-use Rattle.fsrm_model.specs.Runs.{last_entries}
+use Rattle.fsrm_model.specs.objects.Runs.{last_entries}
 use Rattle.number_set.specs.Numbers.{Numbers}
 use Rattle.thresholds.specs.Marked.{Marked}
 use Rattle.thresholds.proofs.KeptLaws.{pushed_items, entry_kept, number_kept}

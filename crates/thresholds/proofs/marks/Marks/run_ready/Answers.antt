@@ -3,8 +3,8 @@ use Rattle.std.proofs.lemmas.Option.{same_Some, slice_get_within}
 use Rattle.std.specs.Prelude.{map}
 use Rattle.fsrm_base.proofs.SortedRows.{there}
 use Rattle.fsrm_model.specs.declared.row.QuotaRow.{QuotaRow}
-use Rattle.fsrm_model.specs.DueActions.{ready}
-use Rattle.fsrm_model.specs.Runs.{run_quota}
+use Rattle.fsrm_model.specs.objects.DueActions.{ready}
+use Rattle.fsrm_model.specs.objects.Runs.{run_quota}
 use Rattle.fsrm_objects.specs.Tables.{Tables}
 use Rattle.thresholds.specs.Marked.{act_at, action_at, waiting}
 use Rattle.thresholds.specs.Settled.{Settles}

@@ -6,7 +6,7 @@ use Rattle.std.specs.Option.{option_copied}
 use Rattle.fsrm_base.proofs.SortedRows.{there}
 use Rattle.fsrm_model.specs.declared.row.QuotaRow.{QuotaRow}
 use Rattle.fsrm_model.specs.declared.row.Threshold.{Threshold}
-use Rattle.fsrm_model.specs.Runs.{run_quota, run_threshold}
+use Rattle.fsrm_model.specs.objects.Runs.{run_quota, run_threshold}
 use Rattle.fsrm_objects.specs.Tables.{Tables}
 use Rattle.thresholds.specs.Settled.{Settles, crosses, has_orderly_lists, ready_in}
 use Rattle.thresholds.proofs.OrderLaws.{orderly, at_passes, percents_ascend}

@@ -5,9 +5,9 @@ use Rattle.fsrm_base.proofs.SortedRows.{there}
 use Rattle.fsrm_model.specs.declared.command.Act.{Act}
 use Rattle.fsrm_model.specs.declared.command.Subject.TheVariants.{Screen}
 use Rattle.fsrm_model.specs.declared.row.ScreenRow.{ScreenRow}
-use Rattle.fsrm_model.specs.DueActions.{act_of, ready}
-use Rattle.fsrm_model.specs.Limits.{most_entries}
-use Rattle.fsrm_model.specs.Screens.{screen_folder}
+use Rattle.fsrm_model.specs.objects.DueActions.{act_of, ready}
+use Rattle.fsrm_model.specs.values.Limits.{most_entries}
+use Rattle.fsrm_model.specs.objects.Screens.{screen_folder}
 use Rattle.fsrm_objects.specs.Tables.{Tables, with_screen_run}
 use Rattle.thresholds.specs.Marked.{Marked, screen_act_at, screen_action_at}
 use Rattle.thresholds.specs.Settled.{SettlesScreen}

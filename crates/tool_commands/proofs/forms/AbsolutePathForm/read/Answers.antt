@@ -1,6 +1,6 @@
 use Rattle.std.proofs.Common.{refl}
-use Rattle.fsrm_model.specs.ValueForms.{PathValue, path_of}
-use Rattle.fsrm_model.specs.Reading.{path_from}
+use Rattle.fsrm_model.specs.lines.ValueForms.{PathValue, path_of}
+use Rattle.fsrm_model.specs.lines.Reading.{path_from}
 use Rattle.tool_commands.proofs.OptionLaws.{reads_value}
 use Rattle.tool_commands.proofs.forms.AbsolutePathForm.read.Goals as goal
 

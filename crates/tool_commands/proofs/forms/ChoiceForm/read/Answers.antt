@@ -1,6 +1,6 @@
 use Rattle.std.proofs.Common.{refl}
-use Rattle.fsrm_model.specs.ValueForms.{ChoiceValue, choice_of}
-use Rattle.fsrm_model.specs.Reading.{choice_from}
+use Rattle.fsrm_model.specs.lines.ValueForms.{ChoiceValue, choice_of}
+use Rattle.fsrm_model.specs.lines.Reading.{choice_from}
 use Rattle.tool_commands.proofs.OptionLaws.{reads_value}
 use Rattle.tool_commands.proofs.forms.ChoiceForm.read.Goals as goal
 

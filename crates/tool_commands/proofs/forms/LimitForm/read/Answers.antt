@@ -1,6 +1,6 @@
 use Rattle.std.proofs.Common.{refl}
-use Rattle.fsrm_model.specs.ValueForms.{NumberValue, number_of}
-use Rattle.fsrm_model.specs.Reading.{limit_from}
+use Rattle.fsrm_model.specs.lines.ValueForms.{NumberValue, number_of}
+use Rattle.fsrm_model.specs.lines.Reading.{limit_from}
 use Rattle.tool_commands.proofs.OptionLaws.{reads_value}
 use Rattle.tool_commands.proofs.forms.LimitForm.read.Goals as goal
 

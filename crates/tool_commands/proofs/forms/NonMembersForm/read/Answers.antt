@@ -1,6 +1,6 @@
 use Rattle.std.proofs.Common.{refl}
-use Rattle.fsrm_model.specs.ValueForms.{TextsValue, texts_of}
-use Rattle.fsrm_model.specs.GroupWords.{non_members_from}
+use Rattle.fsrm_model.specs.lines.ValueForms.{TextsValue, texts_of}
+use Rattle.fsrm_model.specs.lines.GroupWords.{non_members_from}
 use Rattle.tool_commands.proofs.OptionLaws.{reads_value}
 use Rattle.tool_commands.proofs.forms.NonMembersForm.read.Goals as goal
 

@@ -1,6 +1,6 @@
 use Rattle.std.proofs.Common.{refl}
-use Rattle.fsrm_model.specs.ValueForms.{NoticeValue, notice_of}
-use Rattle.fsrm_model.specs.ActionWords.{notice_from}
+use Rattle.fsrm_model.specs.lines.ValueForms.{NoticeValue, notice_of}
+use Rattle.fsrm_model.specs.texts.ActionWords.{notice_from}
 use Rattle.tool_commands.proofs.OptionLaws.{reads_value}
 use Rattle.tool_commands.proofs.forms.NoticeForm.read.Goals as goal
 

@@ -1,6 +1,6 @@
 use Rattle.std.proofs.Common.{refl}
-use Rattle.fsrm_model.specs.ValueForms.{TextValue, text_of}
-use Rattle.fsrm_model.specs.GroupWords.{object_from}
+use Rattle.fsrm_model.specs.lines.ValueForms.{TextValue, text_of}
+use Rattle.fsrm_model.specs.lines.GroupWords.{object_from}
 use Rattle.tool_commands.proofs.OptionLaws.{reads_value}
 use Rattle.tool_commands.proofs.forms.ObjectNameForm.read.Goals as goal
 

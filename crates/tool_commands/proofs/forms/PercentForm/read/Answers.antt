@@ -1,6 +1,6 @@
 use Rattle.std.proofs.Common.{refl}
-use Rattle.fsrm_model.specs.ValueForms.{NumberValue, number_of}
-use Rattle.fsrm_model.specs.ActionWords.{percent_from}
+use Rattle.fsrm_model.specs.lines.ValueForms.{NumberValue, number_of}
+use Rattle.fsrm_model.specs.texts.ActionWords.{percent_from}
 use Rattle.tool_commands.proofs.OptionLaws.{reads_value}
 use Rattle.tool_commands.proofs.forms.PercentForm.read.Goals as goal
 

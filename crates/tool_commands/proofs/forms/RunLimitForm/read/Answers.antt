@@ -1,7 +1,7 @@
 use Rattle.std.proofs.Common.{refl}
-use Rattle.fsrm_model.specs.ValueForms.{NumberValue, number_of}
-use Rattle.fsrm_model.specs.Limits.{most_minutes}
-use Rattle.fsrm_model.specs.Reading.{number_from}
+use Rattle.fsrm_model.specs.lines.ValueForms.{NumberValue, number_of}
+use Rattle.fsrm_model.specs.values.Limits.{most_minutes}
+use Rattle.fsrm_model.specs.lines.Reading.{number_from}
 use Rattle.tool_commands.proofs.OptionLaws.{reads_value}
 use Rattle.tool_commands.proofs.forms.RunLimitForm.read.Goals as goal
 

@@ -1,6 +1,6 @@
 use Rattle.std.proofs.Common.{refl}
-use Rattle.fsrm_model.specs.ValueForms.{ActionValue, action_of}
-use Rattle.fsrm_model.specs.ActionWords.{action_from}
+use Rattle.fsrm_model.specs.lines.ValueForms.{ActionValue, action_of}
+use Rattle.fsrm_model.specs.texts.ActionWords.{action_from}
 use Rattle.tool_commands.proofs.OptionLaws.{reads_value}
 use Rattle.tool_commands.proofs.forms.ScreenActionForm.read.Goals as goal
 

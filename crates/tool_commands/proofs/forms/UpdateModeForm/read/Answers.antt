@@ -1,6 +1,6 @@
 use Rattle.std.proofs.Common.{refl}
-use Rattle.fsrm_model.specs.ValueForms.{UpdateValue, update_of}
-use Rattle.fsrm_model.specs.TemplateWords.{update_from}
+use Rattle.fsrm_model.specs.lines.ValueForms.{UpdateValue, update_of}
+use Rattle.fsrm_model.specs.lines.TemplateWords.{update_from}
 use Rattle.tool_commands.proofs.OptionLaws.{reads_value}
 use Rattle.tool_commands.proofs.forms.UpdateModeForm.read.Goals as goal
 

@@ -1,8 +1,8 @@
 use Rattle.std.proofs.Common.{rules, ◌≡◌, nat_le, ◌∷◌, ◌++◌, [], true, false, Ok, Err, sym, refl, arith}
 use Rattle.std.specs.Str.{str_eq_ignore_ascii_case}
-use Rattle.fsrm_model.specs.ValueForms.{value_from}
-use Rattle.fsrm_model.specs.Options.{at_most, times_in}
-use Rattle.fsrm_model.specs.Reading.{guarded}
+use Rattle.fsrm_model.specs.lines.ValueForms.{value_from}
+use Rattle.fsrm_model.specs.lines.Options.{at_most, times_in}
+use Rattle.fsrm_model.specs.lines.Reading.{guarded}
 use Rattle.fsrm_model.specs.declared.command.Refusal.TheVariants.{OutOfRange}
 use Rattle.fsrm_base.proofs.TestLaws.{not_le}
 use Rattle.std.proofs.lemmas.Bool.{le-leb}

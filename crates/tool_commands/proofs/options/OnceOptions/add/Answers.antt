@@ -1,7 +1,7 @@
 use Rattle.std.proofs.Common.{rules, ◌≡◌, ◌∷◌, ◌++◌, [], true, Ok, Err, sym}
 use Rattle.std.specs.Str.{str_eq_ignore_ascii_case}
-use Rattle.fsrm_model.specs.ValueForms.{value_from}
-use Rattle.fsrm_model.specs.Options.{once}
+use Rattle.fsrm_model.specs.lines.ValueForms.{value_from}
+use Rattle.fsrm_model.specs.lines.Options.{once}
 use Rattle.tool_commands.proofs.OptionLaws.{named_own, once_again, once_fresh, once_more, faulty, own, not_some}
 use Rattle.tool_commands.proofs.options.OnceOptions.add.Goals as goal
 

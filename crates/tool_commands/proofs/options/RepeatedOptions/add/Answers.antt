@@ -1,7 +1,7 @@
 use Rattle.std.proofs.Common.{rules, ◌≡◌, ◌∷◌, ◌++◌, [], true, Ok, Err, sym}
 use Rattle.std.specs.Str.{str_eq_ignore_ascii_case}
-use Rattle.fsrm_model.specs.ValueForms.{value_from}
-use Rattle.fsrm_model.specs.Options.{repeated}
+use Rattle.fsrm_model.specs.lines.ValueForms.{value_from}
+use Rattle.fsrm_model.specs.lines.Options.{repeated}
 use Rattle.tool_commands.specs.declared.reading.LineFault.TheVariants.{NoMemory}
 use Rattle.tool_commands.proofs.OptionLaws.{named_own, repeated_fresh, each_more, faulty, own}
 use Rattle.tool_commands.proofs.options.RepeatedOptions.add.Goals as goal

@@ -1,6 +1,6 @@
 use Rattle.std.proofs.Common.{arith}
 use Rattle.std.proofs.lemmas.List.Sums.{prefix_len-le-length}
-use Rattle.fsrm_model.specs.Words.{is_blank}
+use Rattle.fsrm_model.specs.lines.Words.{is_blank}
 use Rattle.tool_commands.specs.Taking.{left}
 use Rattle.tool_commands.proofs.LineWords.{no_column, column_after}
 use Rattle.tool_commands.proofs.words.Words.next_column.Goals as goal

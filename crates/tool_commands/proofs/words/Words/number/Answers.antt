@@ -1,5 +1,5 @@
 use Rattle.std.proofs.Common.{◌∙◌, sym}
-use Rattle.fsrm_model.specs.Line.{number_word}
+use Rattle.fsrm_model.specs.lines.Line.{number_word}
 use Rattle.tool_commands.proofs.Numbers.{digits_word}
 use Rattle.tool_commands.proofs.Taken.{number_taken, spoilt_number, taken_from}
 use Rattle.tool_commands.proofs.words.Words.number.Goals as goal

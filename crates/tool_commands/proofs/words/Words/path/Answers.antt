@@ -1,4 +1,4 @@
-use Rattle.fsrm_model.specs.Line.{path_word}
+use Rattle.fsrm_model.specs.lines.Line.{path_word}
 use Rattle.tool_commands.specs.Taking.{lent_word}
 use Rattle.tool_commands.proofs.Taken.{path_read, taken_from}
 use Rattle.tool_commands.proofs.words.Words.path.Goals as goal

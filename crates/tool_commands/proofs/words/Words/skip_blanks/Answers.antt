@@ -1,7 +1,7 @@
 use Rattle.std.proofs.Common.{◌∙◌, ap, subst}
 use Rattle.std.specs.List.{prefix_len}
 use Rattle.std.specs.Str.{IsUtf8}
-use Rattle.fsrm_model.specs.Words.{is_blank}
+use Rattle.fsrm_model.specs.lines.Words.{is_blank}
 use Rattle.tool_commands.specs.Taking.{left}
 use Rattle.tool_commands.proofs.LineWords.{skipped, no_blanks, blanks_end}
 use Rattle.tool_commands.proofs.words.Words.skip_blanks.Goals as goal

@@ -1,6 +1,6 @@
 use Rattle.std.proofs.Common.{◌≡◌, ◌+◌, ◌<◌, ◌∙◌, length, slice_get, Some, ap, sym, subst, arith}
 use Rattle.std.proofs.lemmas.Option.{get_or_from_slice_get}
-use Rattle.fsrm_model.specs.Tree.{children}
+use Rattle.fsrm_model.specs.nodes.Tree.{children}
 use Rattle.block_list.specs.Places.{index_of}
 use Rattle.block_list.specs.Runs.{entries_of}
 use Rattle.volume_tree.specs.Kept.{rows_of}

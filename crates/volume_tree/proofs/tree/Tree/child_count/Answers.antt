@@ -1,5 +1,5 @@
 use Rattle.std.proofs.Common.{length, ap, arith}
-use Rattle.fsrm_model.specs.Tree.{children}
+use Rattle.fsrm_model.specs.nodes.Tree.{children}
 use Rattle.block_list.specs.Places.{index_of}
 use Rattle.volume_tree.specs.Kept.{rows_of}
 use Rattle.volume_tree.specs.Volume.{Volume}

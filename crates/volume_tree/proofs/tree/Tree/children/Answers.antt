@@ -1,5 +1,5 @@
 use Rattle.std.proofs.Common.{◌≡◌, ◌-◌, ◌∙◌, map, take, drop, ap, arith}
-use Rattle.fsrm_model.specs.Tree.{number, children_in_order}
+use Rattle.fsrm_model.specs.nodes.Tree.{number, children_in_order}
 use Rattle.block_list.specs.Places.{index_of}
 use Rattle.block_list.specs.Runs.{entries_of}
 use Rattle.volume_tree.specs.Volume.{Volume}

@@ -2,13 +2,13 @@ use Rattle.std.proofs.Common.{◌≡◌, ℕ, ◌+◌, ◌-◌, true, false, len
 use Rattle.std.specs.Prelude.{◌==◌}
 use Rattle.fsrm_model.specs.declared.row.NodeRow.{NodeRow}
 use Rattle.fsrm_base.specs.Keyed.{has_row}
-use Rattle.fsrm_model.specs.Name.{is_name}
-use Rattle.fsrm_model.specs.Tree.{number, name_of, parent_of, is_folder, child_number}
+use Rattle.fsrm_model.specs.values.Name.{is_name}
+use Rattle.fsrm_model.specs.nodes.Tree.{number, name_of, parent_of, is_folder, child_number}
 use Rattle.fsrm_model.proofs.nodes.Walks.{found_name}
 use Rattle.fsrm_model.proofs.valid.CapacityLaws.{names_most}
 use Rattle.name_rules.specs.Prefix.{prefix}
-use Rattle.fsrm_model.specs.FileOps.{placed}
-use Rattle.fsrm_model.specs.Tree.{name_bytes}
+use Rattle.fsrm_model.specs.nodes.FileOps.{placed}
+use Rattle.fsrm_model.specs.nodes.Tree.{name_bytes}
 use Rattle.node_table.specs.Slots.{with_change_at}
 use Rattle.node_table.specs.Table.{Table}
 use Rattle.node_table.specs.Views.{seen}

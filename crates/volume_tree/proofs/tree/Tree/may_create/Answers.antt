@@ -1,5 +1,5 @@
 use Rattle.std.proofs.Common.{◌≡◌, Some, slice_get, slice_index, sym, ◌∙◌, ap}
-use Rattle.fsrm_model.specs.Tree.{child_number}
+use Rattle.fsrm_model.specs.nodes.Tree.{child_number}
 use Rattle.block_list.specs.Places.{index_of}
 use Rattle.block_list.specs.Runs.{entries_of}
 use Rattle.block_list.proofs.Joined.{entries_before}

@@ -1,5 +1,5 @@
 use Rattle.std.proofs.Common.{refl, sym, ◌∙◌, ap}
-use Rattle.fsrm_model.specs.Tree.{node_of}
+use Rattle.fsrm_model.specs.nodes.Tree.{node_of}
 use Rattle.node_table.specs.Views.{seen}
 use Rattle.volume_tree.specs.Kept.{rows_of}
 use Rattle.volume_tree.specs.Volume.{Volume}

@@ -1,8 +1,8 @@
 use Rattle.std.proofs.Common.{◌≡◌, ◌+◌, ◌≤◌, true, false, length, refl, sym, ◌∙◌, ap, subst, arith}
-use Rattle.fsrm_model.specs.FileOps.{placed}
+use Rattle.fsrm_model.specs.nodes.FileOps.{placed}
 use Rattle.fsrm_base.specs.Keyed.{has_row, with_change}
-use Rattle.fsrm_model.specs.Tree.{number, name_of, is_folder, is_under, name_bytes}
-use Rattle.fsrm_model.specs.Valid.{IsVolume}
+use Rattle.fsrm_model.specs.nodes.Tree.{number, name_of, is_folder, is_under, name_bytes}
+use Rattle.fsrm_model.specs.store.Valid.{IsVolume}
 use Rattle.fsrm_model.proofs.valid.CapacityLaws.{names_most}
 use Rattle.fsrm_model.proofs.nodes.Keeps.{tree_of}
 use Rattle.fsrm_model.proofs.valid.ValidLaws.{folder_has}

@@ -6,7 +6,7 @@ use Rattle.fsrm_base.specs.Causes.{◌when◌}
 use Rattle.fsrm_base.specs.Keyed.{has_row}
 use Rattle.fsrm_base.specs.Numbers.{with_number}
 use Rattle.fsrm_base.proofs.Look.{found_key}
-use Rattle.fsrm_model.specs.Tree.{number, node_of, name_of, is_folder, children}
+use Rattle.fsrm_model.specs.nodes.Tree.{number, node_of, name_of, is_folder, children}
 use Rattle.fsrm_model.proofs.nodes.UsageLaws.{no_child_of_file}
 use Rattle.fsrm_model.proofs.nodes.Walks.{found_name}
 use Rattle.fsrm_model.proofs.valid.CapacityLaws.{names_most}

@@ -1,6 +1,6 @@
 use Rattle.std.proofs.Common.{rules, [], ◌∷◌, Some, refl, sym, subst, arith}
 use Rattle.std.proofs.lemmas.List.Sorted.{IsPermutation-refl}
-use Rattle.fsrm_model.specs.Fresh.{root_node}
+use Rattle.fsrm_model.specs.nodes.Fresh.{root_node}
 use Rattle.number_set.specs.Numbers.{Numbers}
 use Rattle.volume_tree.specs.Entries.{Sequence}
 use Rattle.node_table.specs.Table.{Table}

@@ -1,7 +1,7 @@
 use Rattle.std.proofs.Common.{◌≡◌, true, refl, sym, ◌∙◌, ap, subst}
 use Rattle.fsrm_base.specs.Keyed.{has_row}
-use Rattle.fsrm_model.specs.FileOps.{resized}
-use Rattle.fsrm_model.specs.Tree.{number, is_folder}
+use Rattle.fsrm_model.specs.nodes.FileOps.{resized}
+use Rattle.fsrm_model.specs.nodes.Tree.{number, is_folder}
 use Rattle.node_table.specs.Slots.{with_change_at}
 use Rattle.node_table.specs.Table.{Table}
 use Rattle.volume_tree.specs.Kept.{IsHeld, rows_of}

@@ -1,8 +1,8 @@
 use Rattle.std.proofs.Common.{◌≡◌, ◌≤◌, List, Some, None, length, take, drop, sym, ◌∙◌, ap, arith}
 use Rattle.std.specs.Prelude.{slice_get}
 use Rattle.fsrm_model.specs.declared.row.NodeRow.{NodeRow}
-use Rattle.fsrm_model.specs.PathNames.{left}
-use Rattle.fsrm_model.specs.Tree.{child_number}
+use Rattle.fsrm_model.specs.meaning.PathNames.{left}
+use Rattle.fsrm_model.specs.nodes.Tree.{child_number}
 use Rattle.volume_tree.specs.Kept.{rows_of}
 use Rattle.volume_tree.specs.Volume.{Volume}
 use Rattle.volume_tree.proofs.kept.KeptLaws.{few_order}

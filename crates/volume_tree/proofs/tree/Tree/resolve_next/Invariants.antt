@@ -1,5 +1,5 @@
 use Rattle.std.proofs.Common.{◌≡◌, ◌+◌, ◌*◌, ◌≤◌, drop, take}
-use Rattle.fsrm_model.specs.PathNames.{left}
+use Rattle.fsrm_model.specs.meaning.PathNames.{left}
 use Rattle.fsrm_model.proofs.nodes.Walks.{walk}
 use Rattle.volume_tree.proofs.tree.Tree.resolve_next.Given as goal
 

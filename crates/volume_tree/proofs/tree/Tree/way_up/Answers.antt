@@ -1,6 +1,6 @@
 use Rattle.std.proofs.Common.{ap, ◌∙◌}
 use Rattle.fsrm_base.specs.Keyed.{has_row}
-use Rattle.fsrm_model.specs.Tree.{number}
+use Rattle.fsrm_model.specs.nodes.Tree.{number}
 use Rattle.fsrm_model.proofs.nodes.Keeps.{tree_of}
 use Rattle.volume_tree.specs.Volume.{Volume}
 use Rattle.volume_tree.proofs.tree.Tree.way_up.Goals as goal

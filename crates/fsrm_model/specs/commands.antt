@@ -1,0 +1,15 @@
+pub mod Check
+pub mod Work
+pub mod FileWork
+pub mod QuotaWork
+pub mod TemplateWork
+pub mod AutoWork
+pub mod GroupWork
+pub mod ScreenWork
+pub mod ScanWork
+pub mod AdminWork
+pub mod Entry
+pub mod CommandForm
+pub mod Commands
+pub mod Step
+pub mod Cost

@@ -1,0 +1,9 @@
+pub mod Words
+pub mod Reading
+pub mod ValueForms
+pub mod Options
+pub mod GroupWords
+pub mod TemplateWords
+pub mod Tools
+pub mod Line
+pub mod Script

@@ -1,0 +1,9 @@
+pub mod PathNames
+pub mod Exceeds
+pub mod Raises
+pub mod Judges
+pub mod Derives
+pub mod Receives
+pub mod Exceptions
+pub mod Named
+pub mod Spelling

@@ -1,0 +1,4 @@
+pub mod Tree
+pub mod Fresh
+pub mod FileOps
+pub mod Leads

@@ -1,0 +1,12 @@
+pub mod Quota
+pub mod QuotaStates
+pub mod Thresholds
+pub mod Reached
+pub mod Templates
+pub mod AutoApply
+pub mod Screens
+pub mod Scan
+pub mod Acts
+pub mod DueActions
+pub mod Runs
+pub mod Audits
