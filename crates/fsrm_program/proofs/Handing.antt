@@ -1,7 +1,6 @@
 -- Acts that are handed out and written one by one, after the reply to their command.
 use Rattle.std.proofs.Common.{◌≡◌, ℕ, ◌+◌, ◌≤◌, Bool, true, false, refl, List, [], ◌∷◌, ◌++◌, sym, ap, ◌∙◌, subst, arith, append_assoc}
-use Rattle.std.specs.Prelude.{Option, Some, None, Result, Ok, if◌then◌else◌, nat_lt}
-use Rattle.std.specs.Io.KnownBytes.{append_known}
+use Rattle.std.specs.Prelude.{Option, Some, None, Ok, if◌then◌else◌, nat_lt}
 use Rattle.std.proofs.lemmas.Grind.{flat_map-append}
 use Rattle.std.proofs.lemmas.List.{append-nil}
 use Rattle.std.proofs.lemmas.List.Sums.{sum_by-append}
@@ -23,10 +22,6 @@ use Rattle.fsrm_model.specs.commands.Work.{Work}
 use Rattle.fsrm_model.specs.commands.Step.{Acted, Stepped, decided, lasted, left_by, refused_leaving, screened, step, unlasting, work}
 use Rattle.fsrm_model.specs.texts.Text.{reply}
 use Rattle.fsrm_model.specs.store.Valid.{IsValid}
-use Rattle.fsrm_outside.specs.Shown.{ShowsFront}
-use Rattle.fsrm_outside.proofs.Shown.{shows_then, shows_then_front}
-use Rattle.reply_text.specs.Writes.{Sends}
-use Rattle.reply_text.proofs.Sent.{front_more, sends_then}
 
 -- ---- one act after others
 pub one_handed : (all done waiting rest : List Act) (act : Act) → all ≡ done ++ waiting → waiting ≡ act ∷ rest → all ≡ (done ++ act ∷ []) ++ rest
@@ -40,15 +35,14 @@ lines_more R done act =
     ap (λ (xs : List ℕ). act_lines R done ++ xs) (sym (append-nil (act_line R act))) ∙ sym (flat_map-append (act_line R) done (act ∷ []))
 
 -- the rows stay while acts are handed out
-pub line_shown : (R S : Rows) (done : List Act) (act : Act) (a b c : Option (List ℕ)) → S ≡ R → b ≡ append_known a (act_lines R done) → c ≡ append_known b (act_line S act) → c ≡ append_known a (act_lines R (done ++ act ∷ []))
-line_shown R S done act a b c same p q =
-    shows_then a b c (act_lines R done) (act_line R act) p (q ∙ ap (λ (T : Rows). append_known b (act_line T act)) same) ∙ ap (append_known a) (lines_more R done act)
+pub line_is : (R S : Rows) (done : List Act) (act : Act) → S ≡ R → act_lines R done ++ act_line S act ≡ act_lines R (done ++ act ∷ [])
+line_is R S done act same = ap (λ (T : Rows). act_lines R done ++ act_line T act) same ∙ lines_more R done act
 
-pub line_broken : (R S : Rows) (all done rest : List Act) (act : Act) (a b c : Option (List ℕ)) → S ≡ R → all ≡ (done ++ act ∷ []) ++ rest → b ≡ append_known a (act_lines R done) → ShowsFront b c (act_line S act) → ShowsFront a c (act_lines R all)
-line_broken R S all done rest act a b c same e p q =
-    let own : ShowsFront b c (act_line R act) = subst (λ (T : Rows). ShowsFront b c (act_line T act)) same q in
-    let these : ShowsFront a c (act_lines R (done ++ act ∷ [])) = subst (ShowsFront a c) (lines_more R done act) (shows_then_front a b c (act_lines R done) (act_line R act) p own) in
-    subst (ShowsFront a c) (sym (flat_map-append (act_line R) (done ++ act ∷ []) rest) ∙ sym (ap (act_lines R) e)) (front_more a c (act_lines R (done ++ act ∷ [])) (act_lines R rest) these)
+pub lines_are : (R S : Rows) (all done rest : List Act) (act : Act) → S ≡ R → all ≡ (done ++ act ∷ []) ++ rest → act_lines R done ++ (act_line S act ++ act_lines R rest) ≡ act_lines R all
+lines_are R S all done rest act same e =
+    sym (append_assoc (act_lines R done) (act_line S act) (act_lines R rest))
+    ∙ ap (λ (xs : List ℕ). xs ++ act_lines R rest) (line_is R S done act same)
+    ∙ sym (flat_map-append (act_line R) (done ++ act ∷ []) rest) ∙ sym (ap (act_lines R) e)
 
 -- their looks
 cost_more : (nodes : List NodeRow) (done : List Act) (act : Act) → acts_cost nodes (done ++ act ∷ []) ≡ acts_cost nodes done + path_cost nodes (folder_in act.subject)
@@ -71,17 +65,12 @@ pub valid_still : (K L : Capacity) (R S : Rows) → L ≡ K → S ≡ R → IsVa
 valid_still K L R S size rows h = subst (λ (T : Rows). IsValid L T) (sym rows) (subst (λ (M : Capacity). IsValid M R) (sym size) h)
 
 -- ---- a reply, and then its acts
-pub reply_front : (K : Capacity) (R : Rows) (c : Command) (n : ℕ) (text : List ℕ) (a b : Option (List ℕ)) → text ≡ reply K (step K R c).rows c.moment n (step K R c).outcome → ShowsFront a b text → ShowsFront a b (replied_to K R n (Some (Ok c))).text
-reply_front K R c n text a b e h =
+pub reply_is : (K : Capacity) (R rows : Rows) (c : Command) (n : ℕ) (text : List ℕ) (acts : List Act) → text ≡ reply K (step K R c).rows c.moment n (step K R c).outcome → rows ≡ (step K R c).rows → acts ≡ (step K R c).acts
+    → text ++ act_lines rows acts ≡ (replied_to K R n (Some (Ok c))).text
+reply_is K R rows c n text acts e same these =
     let s = step K R c in
-    front_more a b (reply K s.rows c.moment n s.outcome) (act_lines s.rows s.acts) (subst (ShowsFront a b) e h)
-
-pub reply_then : {T E : Type 0} (r : Result T E) (K : Capacity) (R rows : Rows) (c : Command) (n : ℕ) (text : List ℕ) (acts : List Act) (first mid last : Option (List ℕ)) → text ≡ reply K (step K R c).rows c.moment n (step K R c).outcome
-    → rows ≡ (step K R c).rows → acts ≡ (step K R c).acts → mid ≡ append_known first text → Sends r mid last (act_lines rows acts) → Sends r first last (replied_to K R n (Some (Ok c))).text
-reply_then r K R rows c n text acts first mid last e same these p h =
-    let s = step K R c in
-    sends_then r first mid last (reply K s.rows c.moment n s.outcome) (act_lines s.rows s.acts) (p ∙ ap (append_known first) e)
-    (subst (Sends r mid last) (ap (λ (T : Rows). act_lines T acts) same ∙ ap (act_lines s.rows) these) h)
+    let own = reply K s.rows c.moment n s.outcome in
+    ap (λ (xs : List ℕ). xs ++ act_lines rows acts) e ∙ ap (λ (T : Rows). own ++ act_lines T acts) same ∙ ap (λ (handed : List Act). own ++ act_lines s.rows handed) these
 
 pub looks_of_all : (K : Capacity) (R rows : Rows) (c : Command) (outcome : Outcome) (acts : List Act) (first taken written last : ℕ) → rows ≡ (step K R c).rows → outcome ≡ (step K R c).outcome → acts ≡ (step K R c).acts
     → taken ≤ first + cost R c → written ≤ taken + print_cost rows outcome → last ≤ written + acts_cost rows.nodes acts → last ≤ first + read_cost K R (Some (Ok c))
@@ -121,10 +110,8 @@ calm_step K R c still =
     let w = work K R c.moment c.deed in
     calm_decided K R c.moment w (first ((ClockBack when nat_lt c.moment R.last_moment) ∷ w.checks)) still
 
-pub reply_alone : (K : Capacity) (R : Rows) (c : Command) (n : ℕ) (text : List ℕ) (first mid : Option (List ℕ)) → text ≡ reply K (step K R c).rows c.moment n (step K R c).outcome → (step K R c).lasting ≡ false → mid ≡ append_known first text → mid ≡ append_known first (replied_to K R n (Some (Ok c))).text
-reply_alone K R c n text first mid e still p =
+pub reply_alone : (K : Capacity) (R : Rows) (c : Command) (n : ℕ) (text : List ℕ) → text ≡ reply K (step K R c).rows c.moment n (step K R c).outcome → (step K R c).lasting ≡ false → text ≡ (replied_to K R n (Some (Ok c))).text
+reply_alone K R c n text e still =
     let s = step K R c in
     let none : act_lines s.rows s.acts ≡ [] = ap (act_lines s.rows) (calm_step K R c still) in
-    let whole : text ≡ reply K s.rows c.moment n s.outcome ++ act_lines s.rows s.acts =
-    e ∙ (sym (append-nil (reply K s.rows c.moment n s.outcome)) ∙ ap (λ (lines : List ℕ). reply K s.rows c.moment n s.outcome ++ lines) (sym none)) in
-    p ∙ ap (append_known first) whole
+    e ∙ (sym (append-nil (reply K s.rows c.moment n s.outcome)) ∙ ap (λ (lines : List ℕ). reply K s.rows c.moment n s.outcome ++ lines) (sym none))

@@ -15,8 +15,6 @@ use Rattle.fsrm_model.specs.commands.Step.{step}
 use Rattle.fsrm_model.specs.texts.Text.{is_bare, head_line, reply}
 use Rattle.fsrm_model.proofs.lines.LineRefusals.{line_refusal}
 use Rattle.fsrm_model.proofs.lines.PlainMachine.{replied-read, line_cost-read}
-use Rattle.fsrm_outside.specs.Shown.{ShowsFront}
-use Rattle.fsrm_outside.proofs.Shown.{append_known-nil}
 use Rattle.tool_commands.specs.declared.reading.LineFault.{LineFault}
 use Rattle.tool_commands.specs.declared.reading.LineFault.TheVariants.{Refused as Reason}
 use Rattle.tool_commands.specs.LineFaults.{IsFault}
@@ -33,10 +31,6 @@ always_ok (Err e) p = tt
 pub always_err : {T E : Type 0} {P : Type 0} (r : Result T E) → P → OnErr r P
 always_err (Ok x) p = tt
 always_err (Err e) p = p
-
--- nothing of a text is shown
-pub nothing_shown : (shown : Option (List ℕ)) (text : List ℕ) → ShowsFront shown shown text
-nothing_shown shown text = record { front = []; shown = sym (append_known-nil shown); is_front = (text, refl) }
 
 -- the reply to a command, without its acts
 pub step_reply : (K size : Capacity) (R rows : Rows) (c : Command) (outcome : Outcome) (moment n : ℕ) → size ≡ K → rows ≡ (step K R c).rows → outcome ≡ (step K R c).outcome → reply size rows moment n outcome ≡ reply K (step K R c).rows moment n (step K R c).outcome

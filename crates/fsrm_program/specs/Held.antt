@@ -1,6 +1,6 @@
 -- The state of a session.
 use Rattle.std.specs.Prelude.{ℕ}
-use Rattle.fsrm_program.specs.declared.session.Session.{Session}
+use Rattle.fsrm_program.specs.declared.lines.Session.{Session}
 use Rattle.fsrm_program.specs.Progress.{State}
 
 -- what a session has come to, after so many looks at nodes

@@ -1,13 +1,12 @@
 //! Does what a line asks for, and writes the reply.
 
-ghost use Rattle.std.specs.Prelude.{◌≡◌, ◌≤◌, ◌+◌, [], true, Some, Ok, OnOk, IsErrOf};
+ghost use Rattle.std.specs.Prelude.{◌≡◌, ◌≤◌, ◌+◌, [], true, Some, Ok, OnOk};
 ghost use Rattle.fsrm_model.specs.texts.ActText.{act_lines};
 ghost use Rattle.fsrm_model.specs.commands.Cost.{acts_cost};
 ghost use Rattle.fsrm_model.specs.lines.Script.{without_cr, replied, replied_to, read_cost, line_cost};
 ghost use Rattle.fsrm_model.specs.store.Valid.{IsValid};
 ghost use Rattle.fsrm_model.specs.store.Valued.{is_command};
-ghost use Rattle.fsrm_outside.specs.Causes.{Rose};
-ghost use Rattle.reply_text.specs.Writes.{KeepsCount, Sends};
+ghost use Rattle.reply_text.specs.Writes.{Writes};
 
 use fsrm_engine::Engine;
 use fsrm_model::{Command, Ledger, Steps};
@@ -39,11 +38,7 @@ fn write_acts<S: Sink, L: Ledger>(
     ensures size { engine.new.size ≡ engine.old.size }
     ensures rows { engine.new.rows ≡ engine.old.rows }
     ensures idle { OnOk result (engine.new.waiting ≡ []) }
-    ensures text { Sends result (S.shown sink.old) (S.shown sink.new) (act_lines engine.old.rows engine.old.waiting) }
-    ensures fault { IsErrOf result TextFault.WriteFault → Rose (S.write_faults sink.old) (S.write_faults sink.new) }
-    ensures later { S.write_faults sink.old ≤ S.write_faults sink.new }
-    ensures same { KeepsCount result (S.write_faults sink.old) (S.write_faults sink.new) }
-    ensures by { S.by_write sink.old sink.new }
+    ensures writes { Writes S.Sink result sink.old sink.new (act_lines engine.old.rows engine.old.waiting) }
     ensures looks { steps.new ≤ steps.old + acts_cost engine.old.rows.nodes engine.old.waiting }
 {
     while let Some(act) = engine.next_act() {
@@ -66,11 +61,7 @@ fn take<S: Sink, L: Ledger>(
     ensures size { engine.new.size ≡ engine.old.size }
     ensures idle { OnOk result (engine.new.waiting ≡ []) }
     ensures rows { OnOk result (engine.new.rows ≡ (replied_to engine.old.size engine.old.rows number (Some (Ok command.now))).rows) }
-    ensures text { Sends result (S.shown sink.old) (S.shown sink.new) (replied_to engine.old.size engine.old.rows number (Some (Ok command.now))).text }
-    ensures fault { IsErrOf result TextFault.WriteFault → Rose (S.write_faults sink.old) (S.write_faults sink.new) }
-    ensures later { S.write_faults sink.old ≤ S.write_faults sink.new }
-    ensures same { KeepsCount result (S.write_faults sink.old) (S.write_faults sink.new) }
-    ensures by { S.by_write sink.old sink.new }
+    ensures writes { Writes S.Sink result sink.old sink.new (replied_to engine.old.size engine.old.rows number (Some (Ok command.now))).text }
     ensures looks { steps.new ≤ steps.old + read_cost engine.old.size engine.old.rows (Some (Ok command.now)) }
 {
     let answer = engine.apply(alloc, command, steps)?;
@@ -97,11 +88,7 @@ fn take_read<S: Sink, L: Ledger>(
     ensures size { engine.new.size ≡ engine.old.size }
     ensures idle { OnOk result (engine.new.waiting ≡ []) }
     ensures rows { OnOk result (engine.new.rows ≡ (replied_to engine.old.size engine.old.rows number (Some (Ok command))).rows) }
-    ensures text { Sends result (S.shown sink.old) (S.shown sink.new) (replied_to engine.old.size engine.old.rows number (Some (Ok command))).text }
-    ensures fault { IsErrOf result TextFault.WriteFault → Rose (S.write_faults sink.old) (S.write_faults sink.new) }
-    ensures later { S.write_faults sink.old ≤ S.write_faults sink.new }
-    ensures same { KeepsCount result (S.write_faults sink.old) (S.write_faults sink.new) }
-    ensures by { S.by_write sink.old sink.new }
+    ensures writes { Writes S.Sink result sink.old sink.new (replied_to engine.old.size engine.old.rows number (Some (Ok command))).text }
     ensures looks { steps.new ≤ steps.old + read_cost engine.old.size engine.old.rows (Some (Ok command)) }
 {
     take(engine, alloc, sink, number, &command, steps)
@@ -121,11 +108,7 @@ fn answer_words<S: Sink, L: Ledger>(
     ensures size { engine.new.size ≡ engine.old.size }
     ensures idle { OnOk result (engine.new.waiting ≡ []) }
     ensures rows { OnOk result (engine.new.rows ≡ (replied engine.old.size engine.old.rows number line.now).rows) }
-    ensures text { Sends result (S.shown sink.old) (S.shown sink.new) (replied engine.old.size engine.old.rows number line.now).text }
-    ensures fault { IsErrOf result TextFault.WriteFault → Rose (S.write_faults sink.old) (S.write_faults sink.new) }
-    ensures later { S.write_faults sink.old ≤ S.write_faults sink.new }
-    ensures same { KeepsCount result (S.write_faults sink.old) (S.write_faults sink.new) }
-    ensures by { S.by_write sink.old sink.new }
+    ensures writes { Writes S.Sink result sink.old sink.new (replied engine.old.size engine.old.rows number line.now).text }
     ensures looks { steps.new ≤ steps.old + line_cost engine.old.size engine.old.rows line.now }
 {
     match read_line(alloc, without_cr(line)) {
@@ -151,11 +134,7 @@ pub fn answer<S: Sink, L: Ledger>(
     ensures size { engine.new.size ≡ engine.old.size }
     ensures idle { OnOk result (engine.new.waiting ≡ []) }
     ensures rows { OnOk result (engine.new.rows ≡ (replied engine.old.size engine.old.rows number line.now).rows) }
-    ensures text { Sends result (S.shown sink.old) (S.shown sink.new) (replied engine.old.size engine.old.rows number line.now).text }
-    ensures fault { IsErrOf result TextFault.WriteFault → Rose (S.write_faults sink.old) (S.write_faults sink.new) }
-    ensures later { S.write_faults sink.old ≤ S.write_faults sink.new }
-    ensures same { KeepsCount result (S.write_faults sink.old) (S.write_faults sink.new) }
-    ensures by { S.by_write sink.old sink.new }
+    ensures writes { Writes S.Sink result sink.old sink.new (replied engine.old.size engine.old.rows number line.now).text }
     ensures looks { steps.new ≤ steps.old + line_cost engine.old.size engine.old.rows line.now }
 {
     if is_skipped_line(without_cr(line)) {

@@ -8,10 +8,10 @@
 
 mod answering;
 mod batch;
+mod lines;
 mod pieces;
 mod program;
 mod replay;
-mod session;
 mod status;
 mod writing;
 

@@ -5,7 +5,7 @@ ghost use Rattle.std.specs.Option.{ForSome};
 ghost use Rattle.fsrm_model.specs.nodes.Fresh.{default_capacity, new_rows};
 ghost use Rattle.fsrm_model.specs.values.Limits.{longest_script};
 ghost use Rattle.fsrm_outside.specs.Causes.{Rose};
-ghost use Rattle.reply_text.specs.Writes.{KeepsCount};
+ghost use Rattle.reply_text.specs.Writes.{WritesTo};
 ghost use Rattle.fsrm_program.specs.Bytes.{IsAtEnd, TakenMost};
 ghost use Rattle.fsrm_program.specs.Progress.{Takes, Feeds, FeedsBroken, start};
 ghost use Rattle.fsrm_program.specs.Held.{state_of};
@@ -13,8 +13,8 @@ ghost use Rattle.fsrm_program.specs.Stops.{Stops, StopsAt, Reads, Finishes, Fini
 ghost use Rattle.fsrm_program.specs.Answers.{IsRun, KeepsReads, KeepsWrites, most_taken};
 
 use crate::batch::Batch;
+use crate::lines::{Session, end, feed};
 use crate::pieces::next_piece;
-use crate::session::{Session, end, feed};
 use crate::status::Status;
 use fsrm_engine::Engine;
 use fsrm_model::{Capacity, Ledger, NoMemory, Steps};
@@ -40,10 +40,7 @@ fn answer_piece<S: Sink, L: Ledger>(
     ensures number { OnOk result (session.new.line ≤ session.old.line + length piece.now) }
     ensures written { OnOk result (replies.new.items ≡ []) }
     ensures idle { OnOk result (session.new.engine.waiting ≡ []) }
-    ensures fault { IsErrOf result TextFault.WriteFault → Rose (S.write_faults sink.old) (S.write_faults sink.new) }
-    ensures later { S.write_faults sink.old ≤ S.write_faults sink.new }
-    ensures same { KeepsCount result (S.write_faults sink.old) (S.write_faults sink.new) }
-    ensures by { S.by_write sink.old sink.new }
+    ensures device { WritesTo S.Sink result sink.old sink.new }
 {
     let mut batch = Batch {
         waiting: replies,
@@ -134,10 +131,7 @@ fn finish<S: Sink, L: Ledger>(
     requires idle { session.old.engine.waiting ≡ [] }
     ensures ok { OnOk result (Finishes (state_of session.old steps.old) steps.new (S.shown sink.old) (S.shown sink.new)) }
     ensures err { OnErr result (FinishesFront (state_of session.old steps.old) steps.new (S.shown sink.old) (S.shown sink.new)) }
-    ensures fault { IsErrOf result TextFault.WriteFault → Rose (S.write_faults sink.old) (S.write_faults sink.new) }
-    ensures later { S.write_faults sink.old ≤ S.write_faults sink.new }
-    ensures same { KeepsCount result (S.write_faults sink.old) (S.write_faults sink.new) }
-    ensures by { S.by_write sink.old sink.new }
+    ensures device { WritesTo S.Sink result sink.old sink.new }
 {
     let mut batch = Batch {
         waiting: replies,

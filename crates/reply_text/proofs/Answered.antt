@@ -1,21 +1,14 @@
 -- Replies, part by part.
-use Rattle.std.proofs.Common.{◌≡◌, ℕ, List, [], ◌∷◌, ◌++◌, refl, sym, ap, ◌∙◌}
-use Rattle.std.specs.Prelude.{Option, Some, None, Result, decimal, codes}
-use Rattle.std.specs.Io.KnownBytes.{append_known}
+use Rattle.std.proofs.Common.{◌≡◌, ℕ, List, [], ◌∷◌, ◌++◌, sym, ap, ◌∙◌}
+use Rattle.std.specs.Prelude.{Option, Some, None, decimal, codes}
 use Rattle.std.proofs.lemmas.List.{append-nil}
 use Rattle.fsrm_model.specs.declared.command.Ask.{Ask}
 use Rattle.fsrm_model.specs.declared.command.Outcome.{Outcome}
 use Rattle.fsrm_model.specs.declared.command.Outcome.TheVariants.{Done, Sum, Listing, Scanned, Refused}
 use Rattle.fsrm_model.specs.declared.command.Refusal.{Refusal}
-use Rattle.fsrm_model.specs.declared.command.Refusal.TheVariants.{ScreenBlocked, QuotaExceeded}
 use Rattle.fsrm_model.specs.declared.row.Capacity.{Capacity}
-use Rattle.fsrm_model.specs.declared.row.NodeRow.{NodeRow}
 use Rattle.fsrm_model.specs.declared.row.Rows.{Rows}
 use Rattle.fsrm_model.specs.texts.Text.{body_line, done_words, head_line, line_of, list_lines, path_text, reply}
-use Rattle.fsrm_outside.specs.Shown.{ShowsFront}
-use Rattle.fsrm_outside.proofs.Shown.{append_known-nil}
-use Rattle.reply_text.proofs.Sent.{sends_then, front_more}
-use Rattle.reply_text.specs.Writes.{Sends}
 
 pub done_text : (K : Capacity) (R : Rows) (moment line : ℕ) (outcome : Outcome) → outcome ≡ Done None → head_line R.nodes line (Done None) ≡ reply K R moment line outcome
 done_text K R moment line outcome is = sym (append-nil (head_line R.nodes line (Done None))) ∙ ap (reply K R moment line) (sym is)
@@ -39,16 +32,6 @@ visited_text K R moment line folder visited done outcome path is same =
 pub refused_text : (K : Capacity) (R : Rows) (moment line : ℕ) (refusal : Refusal) (outcome : Outcome) → outcome ≡ Refused refusal → head_line R.nodes line (Refused refusal) ≡ reply K R moment line outcome
 refused_text K R moment line refusal outcome is = sym (append-nil (head_line R.nodes line (Refused refusal))) ∙ ap (reply K R moment line) (sym is)
 
--- nothing was shown
-pub shows_nothing : (a : Option (List ℕ)) (text : List ℕ) → ShowsFront a a text
-shows_nothing a text = record { front = []; shown = sym (append_known-nil a); is_front = (text, refl) }
-
--- the head of a list, of which a front was shown
-pub head_front : (K : Capacity) (R : Rows) (moment line : ℕ) (ask : Ask) (outcome : Outcome) (a b : Option (List ℕ)) → outcome ≡ Listing ask → ShowsFront a b (head_line R.nodes line (Done None)) → ShowsFront a b (reply K R moment line outcome)
-head_front K R moment line ask outcome a b is h =
-    rw is (front_more a b (head_line R.nodes line (Done None)) (list_lines K R ask) h)
-
--- the lines of a list after its head
-pub list_text : {T E : Type 0} (r : Result T E) (K : Capacity) (R : Rows) (moment line : ℕ) (ask : Ask) (outcome : Outcome) (a b c : Option (List ℕ)) → outcome ≡ Listing ask → b ≡ append_known a (head_line R.nodes line (Done None)) → Sends r b c (list_lines K R ask) → Sends r a c (reply K R moment line outcome)
-list_text r K R moment line ask outcome a b c is p h =
-    rw is (sends_then r a b c (head_line R.nodes line (Done None)) (list_lines K R ask) p h)
+-- the head of a list, and its lines
+pub list_text : (K : Capacity) (R : Rows) (moment line : ℕ) (ask : Ask) (outcome : Outcome) → outcome ≡ Listing ask → head_line R.nodes line (Done None) ++ list_lines K R ask ≡ reply K R moment line outcome
+list_text K R moment line ask outcome is = ap (reply K R moment line) (sym is)

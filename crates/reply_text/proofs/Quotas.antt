@@ -1,6 +1,6 @@
 -- The lines of quotas.
 use Rattle.std.proofs.Common.{◌≡◌, ℕ, zero, suc, ◌+◌, ◌<◌, ◌≤◌, ◌==◌, Bool, true, false, cond, List, [], ◌∷◌, ◌++◌, take, refl, sym, ap, subst, rules, Bor, ◌∙◌, arith}
-use Rattle.std.specs.Prelude.{Option, Some, None, Result, is_some, decimal, codes, filter, find, flat_map, sum_by}
+use Rattle.std.specs.Prelude.{Option, Some, None, is_some, decimal, codes, filter, find, flat_map, sum_by}
 use Rattle.std.specs.List.{slice_get}
 use Rattle.std.specs.Option.{option_copied, IsSome}
 use Rattle.std.proofs.lemmas.Bool.Decides.{nat_tests}
@@ -26,11 +26,7 @@ use Rattle.fsrm_base.proofs.Look.{found_key, is_some-find}
 use Rattle.fsrm_base.proofs.Members.{filter_none}
 use Rattle.fsrm_base.proofs.Order.{parts}
 use Rattle.fsrm_base.proofs.TestLaws.{lt_is, eq_is, eq_same, eq_below, le_is}
-use Rattle.fsrm_outside.specs.Shown.{ShowsFront}
-use Rattle.std.specs.Io.KnownBytes.{append_known}
-use Rattle.reply_text.proofs.Sent.{front_more, sends_then}
 use Rattle.reply_text.specs.Lines.{moment_text, line_text, lines_text, threshold_text, used_word, quota_text}
-use Rattle.reply_text.specs.Writes.{Sends}
 
 -- the moment of a peak is one
 pub in_time : (K : Capacity) (R : Rows) (quota : QuotaRow) → IsValid K R → row_of folder_of quota.folder R.quotas ≡ Some quota → quota.peak_at ≤ latest_moment
@@ -118,16 +114,9 @@ lines_parts : (K : Capacity) (nodes : List NodeRow) (quota : QuotaRow) → line_
 unfolding line_text lines_text threshold_text
 lines_parts K nodes quota = refl
 
--- a front of the first
-pub row_front : (K : Capacity) (nodes : List NodeRow) (quota : QuotaRow) (row : List ℕ) (a b : Option (List ℕ)) → row ≡ line_text K nodes quota → ShowsFront a b row → ShowsFront a b (lines_text K nodes quota)
-row_front K nodes quota row a b e h =
-    subst (ShowsFront a b) (lines_parts K nodes quota) (front_more a b (line_text K nodes quota) (flat_map threshold_text quota.thresholds) (subst (ShowsFront a b) e h))
-
 -- the first, and then the others
-pub row_then : {T E : Type 0} (r : Result T E) (K : Capacity) (nodes : List NodeRow) (quota : QuotaRow) (row : List ℕ) (thresholds : List Threshold) (a b c : Option (List ℕ)) → row ≡ line_text K nodes quota → thresholds ≡ quota.thresholds → b ≡ append_known a row → Sends r b c (flat_map threshold_text thresholds) → Sends r a c (lines_text K nodes quota)
-row_then r K nodes quota row thresholds a b c e same p h =
-    subst (Sends r a c) (ap (λ (ts : List Threshold). line_text K nodes quota ++ flat_map threshold_text ts) same ∙ lines_parts K nodes quota)
-    (sends_then r a b c (line_text K nodes quota) (flat_map threshold_text thresholds) (p ∙ ap (append_known a) e) h)
+pub lines_shown : (K : Capacity) (nodes : List NodeRow) (quota : QuotaRow) (row : List ℕ) (thresholds : List Threshold) → row ≡ line_text K nodes quota → thresholds ≡ quota.thresholds → row ++ flat_map threshold_text thresholds ≡ lines_text K nodes quota
+lines_shown K nodes quota row thresholds e same = rw (e, same) (lines_parts K nodes quota)
 
 pub all_lines : (K : Capacity) (R : Rows) → flat_map (lines_text K R.nodes) R.quotas ≡ list_lines K R (Quotas None)
 unfolding lines_text

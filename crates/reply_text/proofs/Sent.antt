@@ -1,41 +1,95 @@
--- What a writer sends.
-use Rattle.std.proofs.Common.{◌≡◌, ℕ, List, ◌++◌, ap, subst, ◌∙◌, append_assoc}
+-- What writers send, one after another.
+use Rattle.std.proofs.Common.{◌≡◌, ℕ, List, [], ◌++◌, refl, sym, ap, subst, ◌∙◌, append_assoc, arith}
+use Rattle.std.proofs.lemmas.Result.{err_from_is_err_and}
 use Rattle.std.specs.Prelude.{Option, Result, Ok, Err}
-use Rattle.std.specs.Result.{IsErr}
+use Rattle.std.specs.Result.{IsErrAnd}
 use Rattle.std.specs.Io.KnownBytes.{append_known}
+use Rattle.fsrm_outside.specs.declared.traits.Sink.{Ghosts as Sink}
 use Rattle.fsrm_outside.specs.Shown.{ShowsFront}
-use Rattle.fsrm_outside.proofs.Shown.{shows_then, shows_then_front}
-use Rattle.reply_text.specs.Writes.{Sends}
+use Rattle.fsrm_outside.proofs.Shown.{append_known-nil, shows_then, shows_then_front}
+use Rattle.reply_text.specs.declared.fault.TextFault.{TextFault}
+use Rattle.reply_text.specs.declared.fault.TextFault.TheVariants.{NoMemory}
+use Rattle.reply_text.specs.Writes.{Sends, Writes, WritesTo}
 
-pub sent : {T E : Type 0} (r : Result T E) (a b : Option (List ℕ)) (t u : List ℕ) → t ≡ u → Sends r a b t → Sends r a b u
-sent r a b t u e h = subst (λ x. Sends r a b x) e h
-
--- one text after another
-pub sends_then : {T E : Type 0} (r : Result T E) (a b c : Option (List ℕ)) (t u : List ℕ) → b ≡ append_known a t → Sends r b c u → Sends r a c (t ++ u)
+sends_then : {T E : Type 0} (r : Result T E) (a b c : Option (List ℕ)) (t u : List ℕ) → b ≡ append_known a t → Sends r b c u → Sends r a c (t ++ u)
 sends_then (Ok x) a b c t u p h = shows_then a b c t u p h
 sends_then (Err e) a b c t u p h = shows_then_front a b c t u p h
 
-pub front_more : (a b : Option (List ℕ)) (xs ys : List ℕ) → ShowsFront a b xs → ShowsFront a b (xs ++ ys)
+front_more : (a b : Option (List ℕ)) (xs ys : List ℕ) → ShowsFront a b xs → ShowsFront a b (xs ++ ys)
 front_more a b xs ys h = record {
   front = h.front;
   shown = h.shown;
   is_front = (h.is_front.0 ++ ys, ap (λ (zs : List ℕ). zs ++ ys) h.is_front.1 ∙ append_assoc h.front h.is_front.0 ys);
 }
 
-pub sends_front : {T E : Type 0} (r : Result T E) (a b : Option (List ℕ)) (t : List ℕ) → IsErr r → ShowsFront a b t → Sends r a b t
-sends_front (Ok x) a b t e h = absurd (cc)
-sends_front (Err x) a b t e h = h
+shows_nothing : (a : Option (List ℕ)) (text : List ℕ) → ShowsFront a a text
+shows_nothing a text = record { front = []; shown = sym (append_known-nil a); is_front = (text, refl) }
 
--- ---- a text in two or three parts
-pub front_first : (a b : Option (List ℕ)) (t rest whole : List ℕ) → t ++ rest ≡ whole → ShowsFront a b t → ShowsFront a b whole
-front_first a b t rest whole e h = subst (ShowsFront a b) e (front_more a b t rest h)
+-- writes that follow others are writes with them
+abbrev pub JoinsWrites : {S : Type 0} → Sink S → Type 0
+JoinsWrites {S = S} sink = (a b c : S) → sink.by_write a b → sink.by_write b c → sink.by_write a c
 
-pub front_second : (a b c : Option (List ℕ)) (t u rest whole : List ℕ) → t ++ (u ++ rest) ≡ whole → b ≡ append_known a t → ShowsFront b c u → ShowsFront a c whole
-front_second a b c t u rest whole e p h =
-    subst (ShowsFront a c) (append_assoc t u rest ∙ e) (front_more a c (t ++ u) rest (shows_then_front a b c t u p h))
+module _ {S T : Type 0} {sink : Sink S} where
+  -- writes, and further writes
+  pub device_then : {r : Result T TextFault} {x : T} {a b c : S} → JoinsWrites sink → WritesTo sink (Ok x) a b → WritesTo sink r b c → WritesTo sink r a c
+  device_then {a = a} {b = b} {c = c} join p q = record {
+    fault = λ is. rw (← p.same) (q.fault is);
+    later = omega arith;
+    same = rw (← p.same) q.same;
+    by = join a b c p.by q.by;
+  }
 
-pub sends_second : {T E : Type 0} (r : Result T E) (a b c : Option (List ℕ)) (t u whole : List ℕ) → t ++ u ≡ whole → b ≡ append_known a t → Sends r b c u → Sends r a c whole
-sends_second r a b c t u whole e p h = sent r a c (t ++ u) whole e (sends_then r a b c t u p h)
+  -- the same text
+  pub told : {r : Result T TextFault} {a b : S} {t u : List ℕ} → t ≡ u → Writes sink r a b t → Writes sink r a b u
+  told {r = r} {a = a} {b = b} e p = subst (λ x. Writes sink r a b x) e p
 
-pub sends_third : {T E : Type 0} (r : Result T E) (a b c d : Option (List ℕ)) (t u v whole : List ℕ) → t ++ (u ++ v) ≡ whole → b ≡ append_known a t → c ≡ append_known b u → Sends r c d v → Sends r a d whole
-sends_third r a b c d t u v whole e p q h = sends_second r a b d t (u ++ v) whole e p (sends_then r b c d u v q h)
+  -- one text after another
+  pub writes_then : {r : Result T TextFault} {x : T} {a b c : S} {t u : List ℕ} → JoinsWrites sink → Writes sink (Ok x) a b t → Writes sink r b c u → Writes sink r a c (t ++ u)
+  writes_then {r = r} {a = a} {b = b} {c = c} {t = t} {u = u} join p q = record {
+    text = sends_then r (sink.shown a) (sink.shown b) (sink.shown c) t u p.text q.text;
+    device = device_then join p.device q.device;
+  }
+
+  -- a text that was cut off, with what would have come after it
+  pub writes_front : {e : TextFault} {a b : S} {t : List ℕ} (rest : List ℕ) → Writes {T = T} sink (Err e) a b t → Writes {T = T} sink (Err e) a b (t ++ rest)
+  writes_front {a = a} {b = b} {t = t} rest p = record {
+    text = front_more (sink.shown a) (sink.shown b) t rest p.text;
+    device = p.device;
+  }
+
+  -- nothing so far
+  pub none_written : {x : T} (a : S) → ((a : S) → sink.by_write a a) → Writes sink (Ok x) a a []
+  none_written a stay = record {
+    text = sym (append_known-nil (sink.shown a));
+    device = record { fault = λ same. cc; later = omega arith; same = refl; by = stay a };
+  }
+
+  -- what the exit of a `?` answers
+  pub passed_on : {e : TextFault} {a b : S} {t : List ℕ} (r : Result T TextFault) → IsErrAnd r (λ d. d ≡ e) → Writes {T = T} sink (Err e) a b t → Writes sink r a b t
+  passed_on r is p = let q = err_from_is_err_and r is in rw (q.1, q.2) p
+
+  pub device_passed_on : {e : TextFault} {a b : S} (r : Result T TextFault) → IsErrAnd r (λ d. d ≡ e) → WritesTo {T = T} sink (Err e) a b → WritesTo sink r a b
+  device_passed_on r is p = let q = err_from_is_err_and r is in rw (q.1, q.2) p
+
+  -- there was no memory, and nothing was written
+  pub unwritten : (a : S) (t : List ℕ) (r : Result T TextFault) → ((a : S) → sink.by_write a a) → IsErrAnd r (λ d. d ≡ NoMemory) → Writes sink r a a t
+  unwritten a t r stay is =
+      let p : Writes {T = T} sink (Err NoMemory) a a t = record {
+        text = shows_nothing (sink.shown a) t;
+        device = record { fault = λ same. cc; later = omega arith; same = refl; by = stay a };
+      } in
+      let q = err_from_is_err_and r is in
+      rw (q.1, q.2) p
+
+  -- ---- a text in two or three parts, whole or cut off in the first or the second
+  pub cut_first : {e : TextFault} {a b : S} {t whole : List ℕ} (rest : List ℕ) → t ++ rest ≡ whole → Writes {T = T} sink (Err e) a b t → Writes {T = T} sink (Err e) a b whole
+  cut_first rest e p = told e (writes_front rest p)
+
+  pub cut_second : {e : TextFault} {x : T} {a b c : S} {t u whole : List ℕ} (rest : List ℕ) → JoinsWrites sink → t ++ (u ++ rest) ≡ whole → Writes sink (Ok x) a b t → Writes {T = T} sink (Err e) b c u → Writes {T = T} sink (Err e) a c whole
+  cut_second rest join e p q = told e (writes_then join p (writes_front rest q))
+
+  pub two_texts : {r : Result T TextFault} {x : T} {a b c : S} {t u whole : List ℕ} → JoinsWrites sink → t ++ u ≡ whole → Writes sink (Ok x) a b t → Writes sink r b c u → Writes sink r a c whole
+  two_texts join e p q = told e (writes_then join p q)
+
+  pub three_texts : {r : Result T TextFault} {x y : T} {a b c d : S} {t u v whole : List ℕ} → JoinsWrites sink → t ++ (u ++ v) ≡ whole → Writes sink (Ok x) a b t → Writes sink (Ok y) b c u → Writes sink r c d v → Writes sink r a d whole
+  three_texts join e p q r = told e (writes_then join p (writes_then join q r))

@@ -1,12 +1,11 @@
 //! Writes the lines of a quota's thresholds, and those of a screen's actions.
 
-ghost use Rattle.std.specs.Prelude.{◌≡◌, ◌≤◌, ◌++◌, ◌∷◌, [], IsErrOf, decimal, flat_map, codes};
+ghost use Rattle.std.specs.Prelude.{◌≡◌, ◌++◌, ◌∷◌, [], decimal, flat_map, codes};
 ghost use Rattle.fsrm_model.specs.texts.ActionWords.{minutes_word};
 ghost use Rattle.fsrm_model.specs.texts.Printed.{deep_line};
-ghost use Rattle.fsrm_outside.specs.Causes.{Rose};
 ghost use Rattle.reply_text.specs.Lines.{action_line, do_text, threshold_text};
 ghost use Rattle.reply_text.specs.Parts.{part_text};
-ghost use Rattle.reply_text.specs.Writes.{KeepsCount, Sends};
+ghost use Rattle.reply_text.specs.Writes.{Writes};
 
 use crate::fault::TextFault;
 use crate::sending::{Part, send};
@@ -27,11 +26,7 @@ fn minutes_parts<'a>(minutes: i32) -> (Part<'a>, Part<'a>)
 
 // Writes the line of a threshold without actions.
 fn write_bare<S: Sink>(sink: &mut S, percent: u16) -> Result<(), TextFault>
-    ensures text { Sends result (S.shown sink.old) (S.shown sink.new) (deep_line (codes "at" ∷ decimal percent ∷ [])) }
-    ensures fault { IsErrOf result TextFault.WriteFault → Rose (S.write_faults sink.old) (S.write_faults sink.new) }
-    ensures later { S.write_faults sink.old ≤ S.write_faults sink.new }
-    ensures same { KeepsCount result (S.write_faults sink.old) (S.write_faults sink.new) }
-    ensures by { S.by_write sink.old sink.new }
+    ensures writes { Writes S.Sink result sink.old sink.new (deep_line (codes "at" ∷ decimal percent ∷ [])) }
 {
     send(
         sink,
@@ -45,11 +40,7 @@ fn write_bare<S: Sink>(sink: &mut S, percent: u16) -> Result<(), TextFault>
 
 // Writes the line of an action of a threshold.
 fn write_action<S: Sink>(sink: &mut S, percent: u16, action: &Action) -> Result<(), TextFault>
-    ensures text { Sends result (S.shown sink.old) (S.shown sink.new) (action_line percent action.now) }
-    ensures fault { IsErrOf result TextFault.WriteFault → Rose (S.write_faults sink.old) (S.write_faults sink.new) }
-    ensures later { S.write_faults sink.old ≤ S.write_faults sink.new }
-    ensures same { KeepsCount result (S.write_faults sink.old) (S.write_faults sink.new) }
-    ensures by { S.by_write sink.old sink.new }
+    ensures writes { Writes S.Sink result sink.old sink.new (action_line percent action.now) }
 {
     let kind = action.kind.letter().as_bytes();
     let (sign, digits) = minutes_parts(action.minutes);
@@ -72,11 +63,7 @@ fn write_action<S: Sink>(sink: &mut S, percent: u16, action: &Action) -> Result<
 
 // Writes the lines of a threshold's actions.
 fn write_actions<S: Sink>(sink: &mut S, percent: u16, actions: &[Action]) -> Result<(), TextFault>
-    ensures text { Sends result (S.shown sink.old) (S.shown sink.new) (flat_map (action_line percent) actions.now) }
-    ensures fault { IsErrOf result TextFault.WriteFault → Rose (S.write_faults sink.old) (S.write_faults sink.new) }
-    ensures later { S.write_faults sink.old ≤ S.write_faults sink.new }
-    ensures same { KeepsCount result (S.write_faults sink.old) (S.write_faults sink.new) }
-    ensures by { S.by_write sink.old sink.new }
+    ensures writes { Writes S.Sink result sink.old sink.new (flat_map (action_line percent) actions.now) }
 {
     for action in actions {
         write_action(sink, percent, action)?;
@@ -86,11 +73,7 @@ fn write_actions<S: Sink>(sink: &mut S, percent: u16, actions: &[Action]) -> Res
 
 // Writes the lines of a threshold: one, or one for each of its actions.
 fn write_threshold<S: Sink>(sink: &mut S, threshold: &Threshold) -> Result<(), TextFault>
-    ensures text { Sends result (S.shown sink.old) (S.shown sink.new) (threshold_text threshold.now) }
-    ensures fault { IsErrOf result TextFault.WriteFault → Rose (S.write_faults sink.old) (S.write_faults sink.new) }
-    ensures later { S.write_faults sink.old ≤ S.write_faults sink.new }
-    ensures same { KeepsCount result (S.write_faults sink.old) (S.write_faults sink.new) }
-    ensures by { S.by_write sink.old sink.new }
+    ensures writes { Writes S.Sink result sink.old sink.new (threshold_text threshold.now) }
 {
     if threshold.actions.is_empty() {
         return write_bare(sink, threshold.percent);
@@ -100,11 +83,7 @@ fn write_threshold<S: Sink>(sink: &mut S, threshold: &Threshold) -> Result<(), T
 
 /// Writes the lines of a quota's thresholds.
 pub fn write_thresholds<S: Sink>(sink: &mut S, thresholds: &[Threshold]) -> Result<(), TextFault>
-    ensures text { Sends result (S.shown sink.old) (S.shown sink.new) (flat_map threshold_text thresholds.now) }
-    ensures fault { IsErrOf result TextFault.WriteFault → Rose (S.write_faults sink.old) (S.write_faults sink.new) }
-    ensures later { S.write_faults sink.old ≤ S.write_faults sink.new }
-    ensures same { KeepsCount result (S.write_faults sink.old) (S.write_faults sink.new) }
-    ensures by { S.by_write sink.old sink.new }
+    ensures writes { Writes S.Sink result sink.old sink.new (flat_map threshold_text thresholds.now) }
 {
     for threshold in thresholds {
         write_threshold(sink, threshold)?;
@@ -114,11 +93,7 @@ pub fn write_thresholds<S: Sink>(sink: &mut S, thresholds: &[Threshold]) -> Resu
 
 // Writes the line of an action of a screen.
 fn write_do<S: Sink>(sink: &mut S, action: &Action) -> Result<(), TextFault>
-    ensures text { Sends result (S.shown sink.old) (S.shown sink.new) (do_text action.now) }
-    ensures fault { IsErrOf result TextFault.WriteFault → Rose (S.write_faults sink.old) (S.write_faults sink.new) }
-    ensures later { S.write_faults sink.old ≤ S.write_faults sink.new }
-    ensures same { KeepsCount result (S.write_faults sink.old) (S.write_faults sink.new) }
-    ensures by { S.by_write sink.old sink.new }
+    ensures writes { Writes S.Sink result sink.old sink.new (do_text action.now) }
 {
     let kind = action.kind.letter().as_bytes();
     let (sign, digits) = minutes_parts(action.minutes);
@@ -139,11 +114,7 @@ fn write_do<S: Sink>(sink: &mut S, action: &Action) -> Result<(), TextFault>
 
 /// Writes the lines of a screen's actions.
 pub fn write_dos<S: Sink>(sink: &mut S, actions: &[Action]) -> Result<(), TextFault>
-    ensures text { Sends result (S.shown sink.old) (S.shown sink.new) (flat_map do_text actions.now) }
-    ensures fault { IsErrOf result TextFault.WriteFault → Rose (S.write_faults sink.old) (S.write_faults sink.new) }
-    ensures later { S.write_faults sink.old ≤ S.write_faults sink.new }
-    ensures same { KeepsCount result (S.write_faults sink.old) (S.write_faults sink.new) }
-    ensures by { S.by_write sink.old sink.new }
+    ensures writes { Writes S.Sink result sink.old sink.new (flat_map do_text actions.now) }
 {
     for action in actions {
         write_do(sink, action)?;

@@ -1,15 +1,14 @@
 //! Writes the lines of the log of actions, and those of actions that run.
 
-ghost use Rattle.std.specs.Prelude.{◌≡◌, ℕ, ◌+◌, ◌≤◌, ◌++◌, IsErrOf, decimal, flat_map, true};
+ghost use Rattle.std.specs.Prelude.{◌≡◌, ℕ, ◌+◌, ◌≤◌, ◌++◌, decimal, flat_map, true};
 ghost use Rattle.fsrm_model.specs.texts.ActText.{act_line};
 ghost use Rattle.fsrm_model.specs.objects.Acts.{IsAct, folder_in};
 ghost use Rattle.fsrm_model.specs.commands.Cost.{path_cost};
 ghost use Rattle.fsrm_model.specs.values.Limits.{latest_moment};
 ghost use Rattle.fsrm_model.specs.store.Valid.{IsValid, are_entries};
-ghost use Rattle.fsrm_outside.specs.Causes.{Rose};
 ghost use Rattle.reply_text.specs.Lines.{act_text, entry_text, moment_text, subject_text};
 ghost use Rattle.reply_text.specs.Parts.{part_text};
-ghost use Rattle.reply_text.specs.Writes.{KeepsCount, Sends};
+ghost use Rattle.reply_text.specs.Writes.{Writes};
 
 use crate::dates::moment_text;
 use crate::fault::TextFault;
@@ -36,11 +35,7 @@ fn subject_parts<'a>(percent: u16) -> (Part<'a>, Part<'a>, Part<'a>)
 // Writes the line of an entry, whose moment has this text.
 fn write_dated<S: Sink>(sink: &mut S, entry: &ActRow, moment: &[u8]) -> Result<(), TextFault>
     requires { moment.now ≡ moment_text entry.now.moment }
-    ensures text { Sends result (S.shown sink.old) (S.shown sink.new) (entry_text entry.now) }
-    ensures fault { IsErrOf result TextFault.WriteFault → Rose (S.write_faults sink.old) (S.write_faults sink.new) }
-    ensures later { S.write_faults sink.old ≤ S.write_faults sink.new }
-    ensures same { KeepsCount result (S.write_faults sink.old) (S.write_faults sink.new) }
-    ensures by { S.by_write sink.old sink.new }
+    ensures writes { Writes S.Sink result sink.old sink.new (entry_text entry.now) }
 {
     let kind = entry.kind.letter().as_bytes();
     let (subject, space, percent) = subject_parts(entry.percent);
@@ -63,11 +58,7 @@ fn write_dated<S: Sink>(sink: &mut S, entry: &ActRow, moment: &[u8]) -> Result<(
 // Writes the line of an entry of the log.
 fn write_entry<S: Sink>(sink: &mut S, entry: &ActRow) -> Result<(), TextFault>
     requires { entry.now.moment ≤ latest_moment }
-    ensures text { Sends result (S.shown sink.old) (S.shown sink.new) (entry_text entry.now) }
-    ensures fault { IsErrOf result TextFault.WriteFault → Rose (S.write_faults sink.old) (S.write_faults sink.new) }
-    ensures later { S.write_faults sink.old ≤ S.write_faults sink.new }
-    ensures same { KeepsCount result (S.write_faults sink.old) (S.write_faults sink.new) }
-    ensures by { S.by_write sink.old sink.new }
+    ensures writes { Writes S.Sink result sink.old sink.new (entry_text entry.now) }
 {
     write_dated(sink, entry, &moment_text(entry.moment))
 }
@@ -76,11 +67,7 @@ fn write_entry<S: Sink>(sink: &mut S, entry: &ActRow) -> Result<(), TextFault>
 /// 4,102,444,799.
 pub fn write_log<S: Sink>(sink: &mut S, marks: &Marks) -> Result<(), TextFault>
     requires { are_entries marks.now.log ≡ true }
-    ensures text { Sends result (S.shown sink.old) (S.shown sink.new) (flat_map entry_text marks.now.log) }
-    ensures fault { IsErrOf result TextFault.WriteFault → Rose (S.write_faults sink.old) (S.write_faults sink.new) }
-    ensures later { S.write_faults sink.old ≤ S.write_faults sink.new }
-    ensures same { KeepsCount result (S.write_faults sink.old) (S.write_faults sink.new) }
-    ensures by { S.by_write sink.old sink.new }
+    ensures writes { Writes S.Sink result sink.old sink.new (flat_map entry_text marks.now.log) }
 {
     for place in 0..marks.log_len() {
         write_entry(sink, &marks.log_at(place))?;
@@ -95,11 +82,7 @@ fn write_line<'a, S: Sink>(
     path: &'a str,
     text: &'a str,
 ) -> Result<(), TextFault>
-    ensures text { Sends result (S.shown sink.old) (S.shown sink.new) (act_text act.now path.now text.now) }
-    ensures fault { IsErrOf result TextFault.WriteFault → Rose (S.write_faults sink.old) (S.write_faults sink.new) }
-    ensures later { S.write_faults sink.old ≤ S.write_faults sink.new }
-    ensures same { KeepsCount result (S.write_faults sink.old) (S.write_faults sink.new) }
-    ensures by { S.by_write sink.old sink.new }
+    ensures writes { Writes S.Sink result sink.old sink.new (act_text act.now path.now text.now) }
 {
     let kind = act.kind.letter().as_bytes();
     let (path, text) = (path.as_bytes(), text.as_bytes());
@@ -144,11 +127,7 @@ pub fn write_act<S: Sink, L: Ledger>(
 ) -> Result<(), TextFault>
     requires store { IsValid engine.now.size engine.now.rows }
     requires named { IsAct engine.now.rows act.now }
-    ensures text { Sends result (S.shown sink.old) (S.shown sink.new) (act_line engine.now.rows act.now) }
-    ensures fault { IsErrOf result TextFault.WriteFault → Rose (S.write_faults sink.old) (S.write_faults sink.new) }
-    ensures later { S.write_faults sink.old ≤ S.write_faults sink.new }
-    ensures same { KeepsCount result (S.write_faults sink.old) (S.write_faults sink.new) }
-    ensures by { S.by_write sink.old sink.new }
+    ensures writes { Writes S.Sink result sink.old sink.new (act_line engine.now.rows act.now) }
     ensures looks { steps.new ≤ steps.old + path_cost engine.now.rows.nodes (folder_in act.now.subject) }
 {
     let path = engine.path_text(alloc, act.subject.folder(), steps)?;

@@ -1,14 +1,13 @@
 //! Writes the list of file groups, and the names of groups in other lists.
 
-ghost use Rattle.std.specs.Prelude.{◌≡◌, ◌≤◌, IsErrOf, flat_map, true};
+ghost use Rattle.std.specs.Prelude.{◌≡◌, flat_map, true};
 ghost use Rattle.std.specs.List.{list_all};
 ghost use Rattle.fsrm_base.specs.Keyed.{has_row};
 ghost use Rattle.fsrm_model.specs.declared.command.Ask.TheVariants.{Groups as TheGroups};
 ghost use Rattle.fsrm_model.specs.values.Patterns.{group_number};
 ghost use Rattle.fsrm_model.specs.texts.Text.{list_lines};
-ghost use Rattle.fsrm_outside.specs.Causes.{Rose};
 ghost use Rattle.reply_text.specs.Lines.{group_text, named_text};
-ghost use Rattle.reply_text.specs.Writes.{KeepsCount, Sends};
+ghost use Rattle.reply_text.specs.Writes.{Writes};
 
 use crate::fault::TextFault;
 use crate::lines::{write_each_labelled, write_labelled, write_word};
@@ -19,11 +18,7 @@ use fsrm_outside::Sink;
 
 // Writes the lines of a group: its name, and its patterns.
 fn write_group<S: Sink>(sink: &mut S, group: &GroupRow) -> Result<(), TextFault>
-    ensures text { Sends result (S.shown sink.old) (S.shown sink.new) (group_text group.now) }
-    ensures fault { IsErrOf result TextFault.WriteFault → Rose (S.write_faults sink.old) (S.write_faults sink.new) }
-    ensures later { S.write_faults sink.old ≤ S.write_faults sink.new }
-    ensures same { KeepsCount result (S.write_faults sink.old) (S.write_faults sink.new) }
-    ensures by { S.by_write sink.old sink.new }
+    ensures writes { Writes S.Sink result sink.old sink.new (group_text group.now) }
 {
     write_word(sink, group.name.as_str())?;
     write_each_labelled(sink, b"member", group.members.as_slice())?;
@@ -32,11 +27,7 @@ fn write_group<S: Sink>(sink: &mut S, group: &GroupRow) -> Result<(), TextFault>
 
 /// Writes the lines of all groups.
 pub fn write_groups<S: Sink>(sink: &mut S, engine: &Engine) -> Result<(), TextFault>
-    ensures text { Sends result (S.shown sink.old) (S.shown sink.new) (list_lines engine.now.size engine.now.rows TheGroups) }
-    ensures fault { IsErrOf result TextFault.WriteFault → Rose (S.write_faults sink.old) (S.write_faults sink.new) }
-    ensures later { S.write_faults sink.old ≤ S.write_faults sink.new }
-    ensures same { KeepsCount result (S.write_faults sink.old) (S.write_faults sink.new) }
-    ensures by { S.by_write sink.old sink.new }
+    ensures writes { Writes S.Sink result sink.old sink.new (list_lines engine.now.size engine.now.rows TheGroups) }
 {
     let groups = engine.groups();
     for place in 0..groups.count() {
@@ -48,11 +39,7 @@ pub fn write_groups<S: Sink>(sink: &mut S, engine: &Engine) -> Result<(), TextFa
 /// Writes the lines of the groups of these numbers, each of which is there.
 pub fn write_names<S: Sink>(sink: &mut S, groups: &Groups, numbers: &[u32]) -> Result<(), TextFault>
     requires { list_all (λ number. has_row group_number number groups.now) numbers.now ≡ true }
-    ensures text { Sends result (S.shown sink.old) (S.shown sink.new) (flat_map (named_text groups.now) numbers.now) }
-    ensures fault { IsErrOf result TextFault.WriteFault → Rose (S.write_faults sink.old) (S.write_faults sink.new) }
-    ensures later { S.write_faults sink.old ≤ S.write_faults sink.new }
-    ensures same { KeepsCount result (S.write_faults sink.old) (S.write_faults sink.new) }
-    ensures by { S.by_write sink.old sink.new }
+    ensures writes { Writes S.Sink result sink.old sink.new (flat_map (named_text groups.now) numbers.now) }
 {
     for number in numbers {
         write_labelled(sink, b"group", &groups.group(*number).name)?;

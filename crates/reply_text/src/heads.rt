@@ -1,12 +1,11 @@
 //! Writes the lines that tell what became of a command.
 
-ghost use Rattle.std.specs.Prelude.{◌≡◌, ◌++◌, ◌∷◌, [], ◌≤◌, true, false, IfSome, IfNone, IsErrOf, None, List as Items, decimal, codes, length};
+ghost use Rattle.std.specs.Prelude.{◌≡◌, ◌++◌, ◌∷◌, [], ◌≤◌, true, false, IfSome, IfNone, None, List as Items, decimal, codes, length};
 ghost use Rattle.fsrm_model.specs.declared.command.Outcome.TheVariants.{Done, Refused};
 ghost use Rattle.fsrm_model.specs.declared.row.NodeRow.{NodeRow};
 ghost use Rattle.fsrm_model.specs.texts.Text.{body_line, done_words, head_line, is_bare, line_of, refusal_words};
-ghost use Rattle.fsrm_outside.specs.Causes.{Rose};
 ghost use Rattle.reply_text.specs.Lines.{carries_column};
-ghost use Rattle.reply_text.specs.Writes.{KeepsCount, Sends};
+ghost use Rattle.reply_text.specs.Writes.{Writes};
 
 use crate::fault::TextFault;
 use crate::sending::{Part, send, send_short, send_short_with};
@@ -16,22 +15,14 @@ use std::alloc::Global;
 
 /// Writes the first line of a reply to a line that was done.
 pub fn write_ok<S: Sink>(sink: &mut S, line: u64) -> Result<(), TextFault>
-    ensures text { (nodes : Items NodeRow) → Sends result (S.shown sink.old) (S.shown sink.new) (head_line nodes line (Done None)) }
-    ensures fault { IsErrOf result TextFault.WriteFault → Rose (S.write_faults sink.old) (S.write_faults sink.new) }
-    ensures later { S.write_faults sink.old ≤ S.write_faults sink.new }
-    ensures same { KeepsCount result (S.write_faults sink.old) (S.write_faults sink.new) }
-    ensures by { S.by_write sink.old sink.new }
+    ensures writes { (nodes : Items NodeRow) → Writes S.Sink result sink.old sink.new (head_line nodes line (Done None)) }
 {
     send_short(sink, line, b" ok\n")
 }
 
 /// Writes the reply to a line that was done under a passive screen, with the path of its folder.
 pub fn write_passive<S: Sink>(sink: &mut S, line: u64, path: &str) -> Result<(), TextFault>
-    ensures text { (nodes : Items NodeRow) → Sends result (S.shown sink.old) (S.shown sink.new) (head_line nodes line (Done None) ++ body_line (codes "passive" ∷ path.now ∷ [])) }
-    ensures fault { IsErrOf result TextFault.WriteFault → Rose (S.write_faults sink.old) (S.write_faults sink.new) }
-    ensures later { S.write_faults sink.old ≤ S.write_faults sink.new }
-    ensures same { KeepsCount result (S.write_faults sink.old) (S.write_faults sink.new) }
-    ensures by { S.by_write sink.old sink.new }
+    ensures writes { (nodes : Items NodeRow) → Writes S.Sink result sink.old sink.new (head_line nodes line (Done None) ++ body_line (codes "passive" ∷ path.now ∷ [])) }
 {
     send(
         sink,
@@ -46,11 +37,7 @@ pub fn write_passive<S: Sink>(sink: &mut S, line: u64, path: &str) -> Result<(),
 
 /// Writes the reply that tells what the files at and below a path take, in bytes.
 pub fn write_sum<S: Sink>(sink: &mut S, line: u64, bytes: u64, path: &str) -> Result<(), TextFault>
-    ensures text { (nodes : Items NodeRow) → Sends result (S.shown sink.old) (S.shown sink.new) (head_line nodes line (Done None) ++ body_line (decimal bytes ∷ path.now ∷ [])) }
-    ensures fault { IsErrOf result TextFault.WriteFault → Rose (S.write_faults sink.old) (S.write_faults sink.new) }
-    ensures later { S.write_faults sink.old ≤ S.write_faults sink.new }
-    ensures same { KeepsCount result (S.write_faults sink.old) (S.write_faults sink.new) }
-    ensures by { S.by_write sink.old sink.new }
+    ensures writes { (nodes : Items NodeRow) → Writes S.Sink result sink.old sink.new (head_line nodes line (Done None) ++ body_line (decimal bytes ∷ path.now ∷ [])) }
 {
     send(
         sink,
@@ -74,11 +61,7 @@ pub fn write_visited<S: Sink>(
     done: Option<u64>,
     path: &str,
 ) -> Result<(), TextFault>
-    ensures text { Sends result (S.shown sink.old) (S.shown sink.new) (line_of (decimal line ∷ codes "ok" ∷ codes "visited" ∷ decimal visited ∷ codes "of" ∷ path.now ∷ done_words done)) }
-    ensures fault { IsErrOf result TextFault.WriteFault → Rose (S.write_faults sink.old) (S.write_faults sink.new) }
-    ensures later { S.write_faults sink.old ≤ S.write_faults sink.new }
-    ensures same { KeepsCount result (S.write_faults sink.old) (S.write_faults sink.new) }
-    ensures by { S.by_write sink.old sink.new }
+    ensures writes { Writes S.Sink result sink.old sink.new (line_of (decimal line ∷ codes "ok" ∷ codes "visited" ∷ decimal visited ∷ codes "of" ∷ path.now ∷ done_words done)) }
 {
     let (line, visited) = (Part::Number(line), Part::Number(u64::from(visited)));
     let (ok, of, path) = (
@@ -98,11 +81,7 @@ pub fn write_visited<S: Sink>(
 
 /// Writes the reply to a line whose name a screen blocks, by the path of the screen's folder.
 pub fn write_blocked<S: Sink>(sink: &mut S, line: u64, path: &str) -> Result<(), TextFault>
-    ensures text { Sends result (S.shown sink.old) (S.shown sink.new) (line_of (decimal line ∷ codes "refused" ∷ codes "ScreenBlocked" ∷ path.now ∷ [])) }
-    ensures fault { IsErrOf result TextFault.WriteFault → Rose (S.write_faults sink.old) (S.write_faults sink.new) }
-    ensures later { S.write_faults sink.old ≤ S.write_faults sink.new }
-    ensures same { KeepsCount result (S.write_faults sink.old) (S.write_faults sink.new) }
-    ensures by { S.by_write sink.old sink.new }
+    ensures writes { Writes S.Sink result sink.old sink.new (line_of (decimal line ∷ codes "refused" ∷ codes "ScreenBlocked" ∷ path.now ∷ [])) }
 {
     send(
         sink,
@@ -123,11 +102,7 @@ pub fn write_exceeded<S: Sink>(
     limit: u64,
     path: &str,
 ) -> Result<(), TextFault>
-    ensures text { Sends result (S.shown sink.old) (S.shown sink.new) (line_of (decimal line ∷ codes "refused" ∷ codes "QuotaExceeded" ∷ decimal would ∷ decimal limit ∷ path.now ∷ [])) }
-    ensures fault { IsErrOf result TextFault.WriteFault → Rose (S.write_faults sink.old) (S.write_faults sink.new) }
-    ensures later { S.write_faults sink.old ≤ S.write_faults sink.new }
-    ensures same { KeepsCount result (S.write_faults sink.old) (S.write_faults sink.new) }
-    ensures by { S.by_write sink.old sink.new }
+    ensures writes { Writes S.Sink result sink.old sink.new (line_of (decimal line ∷ codes "refused" ∷ codes "QuotaExceeded" ∷ decimal would ∷ decimal limit ∷ path.now ∷ [])) }
 {
     send(
         sink,
@@ -197,11 +172,7 @@ pub fn write_head<S: Sink>(
     refusal: &Refusal,
 ) -> Result<(), TextFault>
     requires { is_bare refusal.now ≡ true }
-    ensures text { (nodes : Items NodeRow) → Sends result (S.shown sink.old) (S.shown sink.new) (head_line nodes line (Refused refusal.now)) }
-    ensures fault { IsErrOf result TextFault.WriteFault → Rose (S.write_faults sink.old) (S.write_faults sink.new) }
-    ensures later { S.write_faults sink.old ≤ S.write_faults sink.new }
-    ensures same { KeepsCount result (S.write_faults sink.old) (S.write_faults sink.new) }
-    ensures by { S.by_write sink.old sink.new }
+    ensures writes { (nodes : Items NodeRow) → Writes S.Sink result sink.old sink.new (head_line nodes line (Refused refusal.now)) }
 {
     match column_of(*refusal) {
         Some(column) => send_short_with(sink, line, b" refused BadLine ", u64::from(column)),

@@ -1,8 +1,8 @@
 //! The texts of replies, written to a sink.
 //!
-//! Each writer writes exactly the text of the definitions, or a front of it if the sink fails or memory runs out
-//! (`text`). A fault of writing was counted by the sink (`fault`), and any other answer leaves that count as it was
-//! (`same`).
+//! Each writer writes exactly the text of the definitions, or a front of it if the sink fails or memory runs out. A
+//! fault of writing was counted by the sink, and any other answer leaves that count as it was. That is the record
+//! `Writes`, which each writer promises in one clause.
 #![tactic(auto)]
 
 mod actions;

@@ -1,10 +1,9 @@
 //! Writes lines that several lists have: those of a word alone, and of a text after the label that tells what it is.
 
-ghost use Rattle.std.specs.Prelude.{◌≤◌, ◌∷◌, [], IsErrOf, flat_map};
+ghost use Rattle.std.specs.Prelude.{◌∷◌, [], flat_map};
 ghost use Rattle.fsrm_model.specs.texts.Printed.{body_line};
-ghost use Rattle.fsrm_outside.specs.Causes.{Rose};
 ghost use Rattle.reply_text.specs.Lines.{labelled_text};
-ghost use Rattle.reply_text.specs.Writes.{KeepsCount, Sends};
+ghost use Rattle.reply_text.specs.Writes.{Writes};
 
 use crate::fault::TextFault;
 use crate::sending::{Part, send};
@@ -14,11 +13,7 @@ use fsrm_outside::Sink;
 /// Writes a line that a word stands on alone: a group's name, or the path of the folder of an exception or an
 /// auto-apply quota.
 pub fn write_word<S: Sink>(sink: &mut S, word: &str) -> Result<(), TextFault>
-    ensures text { Sends result (S.shown sink.old) (S.shown sink.new) (body_line (word.now ∷ [])) }
-    ensures fault { IsErrOf result TextFault.WriteFault → Rose (S.write_faults sink.old) (S.write_faults sink.new) }
-    ensures later { S.write_faults sink.old ≤ S.write_faults sink.new }
-    ensures same { KeepsCount result (S.write_faults sink.old) (S.write_faults sink.new) }
-    ensures by { S.by_write sink.old sink.new }
+    ensures writes { Writes S.Sink result sink.old sink.new (body_line (word.now ∷ [])) }
 {
     send(
         sink,
@@ -36,11 +31,7 @@ pub fn write_labelled<S: Sink>(
     label: &'static [u8],
     text: &Text,
 ) -> Result<(), TextFault>
-    ensures text { Sends result (S.shown sink.old) (S.shown sink.new) (labelled_text label.now text.now) }
-    ensures fault { IsErrOf result TextFault.WriteFault → Rose (S.write_faults sink.old) (S.write_faults sink.new) }
-    ensures later { S.write_faults sink.old ≤ S.write_faults sink.new }
-    ensures same { KeepsCount result (S.write_faults sink.old) (S.write_faults sink.new) }
-    ensures by { S.by_write sink.old sink.new }
+    ensures writes { Writes S.Sink result sink.old sink.new (labelled_text label.now text.now) }
 {
     send(
         sink,
@@ -60,11 +51,7 @@ pub fn write_each_labelled<S: Sink>(
     label: &'static [u8],
     texts: &[Text],
 ) -> Result<(), TextFault>
-    ensures text { Sends result (S.shown sink.old) (S.shown sink.new) (flat_map (labelled_text label.now) texts.now) }
-    ensures fault { IsErrOf result TextFault.WriteFault → Rose (S.write_faults sink.old) (S.write_faults sink.new) }
-    ensures later { S.write_faults sink.old ≤ S.write_faults sink.new }
-    ensures same { KeepsCount result (S.write_faults sink.old) (S.write_faults sink.new) }
-    ensures by { S.by_write sink.old sink.new }
+    ensures writes { Writes S.Sink result sink.old sink.new (flat_map (labelled_text label.now) texts.now) }
 {
     for text in texts {
         write_labelled(sink, label, text)?;

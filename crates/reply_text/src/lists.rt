@@ -1,10 +1,10 @@
 //! Writes the lines of a list.
 
-ghost use Rattle.std.specs.Prelude.{◌≡◌, ◌+◌, ◌≤◌, IsErrOf, Some, flat_map, sum_by};
+ghost use Rattle.std.specs.Prelude.{◌≡◌, ◌+◌, ◌≤◌, Some, flat_map, sum_by};
 ghost use Rattle.fsrm_model.specs.declared.command.Ask.TheVariants.{Acts, Quotas, Settings};
 ghost use Rattle.fsrm_model.specs.declared.command.Outcome.TheVariants.{Listing};
 ghost use Rattle.fsrm_model.specs.commands.Cost.{list_cost, path_cost};
-ghost use Rattle.fsrm_base.specs.Keyed.{has_row, row_of};
+ghost use Rattle.fsrm_base.specs.Keyed.{row_of};
 ghost use Rattle.fsrm_model.specs.values.Limits.{latest_moment};
 ghost use Rattle.fsrm_model.specs.meaning.Named.{IsNamed};
 ghost use Rattle.fsrm_model.specs.texts.Printed.{type_word};
@@ -12,10 +12,9 @@ ghost use Rattle.fsrm_model.specs.objects.Quota.{folder_of};
 ghost use Rattle.fsrm_model.specs.texts.Text as Words;
 ghost use Rattle.fsrm_model.specs.texts.Text.{list_lines};
 ghost use Rattle.fsrm_model.specs.store.Valid.{IsValid};
-ghost use Rattle.fsrm_outside.specs.Causes.{Rose};
 ghost use Rattle.reply_text.specs.Lines.{moment_text, used_word, quota_text, lines_text};
 ghost use Rattle.reply_text.specs.Parts.{part_text};
-ghost use Rattle.reply_text.specs.Writes.{KeepsCount, Sends};
+ghost use Rattle.reply_text.specs.Writes.{Writes};
 
 use crate::actions::write_thresholds;
 use crate::acts::write_log;
@@ -67,11 +66,7 @@ fn write_line<'a, S: Sink>(
     path: &'a str,
 ) -> Result<(), TextFault>
     requires { peak_at.now ≡ moment_text quota.now.peak_at }
-    ensures text { Sends result (S.shown sink.old) (S.shown sink.new) (quota_text quota.now used path.now) }
-    ensures fault { IsErrOf result TextFault.WriteFault → Rose (S.write_faults sink.old) (S.write_faults sink.new) }
-    ensures later { S.write_faults sink.old ≤ S.write_faults sink.new }
-    ensures same { KeepsCount result (S.write_faults sink.old) (S.write_faults sink.new) }
-    ensures by { S.by_write sink.old sink.new }
+    ensures writes { Writes S.Sink result sink.old sink.new (quota_text quota.now used path.now) }
 {
     send(
         sink,
@@ -103,11 +98,7 @@ fn write_row<S: Sink>(
     path: &str,
 ) -> Result<(), TextFault>
     requires { quota.now.peak_at ≤ latest_moment }
-    ensures text { Sends result (S.shown sink.old) (S.shown sink.new) (quota_text quota.now used path.now) }
-    ensures fault { IsErrOf result TextFault.WriteFault → Rose (S.write_faults sink.old) (S.write_faults sink.new) }
-    ensures later { S.write_faults sink.old ≤ S.write_faults sink.new }
-    ensures same { KeepsCount result (S.write_faults sink.old) (S.write_faults sink.new) }
-    ensures by { S.by_write sink.old sink.new }
+    ensures writes { Writes S.Sink result sink.old sink.new (quota_text quota.now used path.now) }
 {
     write_line(sink, quota, used, &moment_text(quota.peak_at), path)
 }
@@ -122,11 +113,7 @@ fn write_quota<S: Sink, L: Ledger>(
 ) -> Result<(), TextFault>
     requires store { IsValid engine.now.size engine.now.rows }
     requires own { row_of folder_of quota.now.folder engine.now.rows.quotas ≡ Some quota.now }
-    ensures text { Sends result (S.shown sink.old) (S.shown sink.new) (lines_text engine.now.size engine.now.rows.nodes quota.now) }
-    ensures fault { IsErrOf result TextFault.WriteFault → Rose (S.write_faults sink.old) (S.write_faults sink.new) }
-    ensures later { S.write_faults sink.old ≤ S.write_faults sink.new }
-    ensures same { KeepsCount result (S.write_faults sink.old) (S.write_faults sink.new) }
-    ensures by { S.by_write sink.old sink.new }
+    ensures writes { Writes S.Sink result sink.old sink.new (lines_text engine.now.size engine.now.rows.nodes quota.now) }
     ensures looks { steps.new ≤ steps.old + path_cost engine.now.rows.nodes quota.now.folder }
 {
     let path = engine.path_text(alloc, quota.folder, steps)?;
@@ -142,11 +129,7 @@ fn write_quotas<S: Sink, L: Ledger>(
     engine: &Engine,
     steps: &mut Steps<L>,
 ) -> Result<(), TextFault>
-    ensures text { Sends result (S.shown sink.old) (S.shown sink.new) (flat_map (lines_text engine.now.size engine.now.rows.nodes) engine.now.rows.quotas) }
-    ensures fault { IsErrOf result TextFault.WriteFault → Rose (S.write_faults sink.old) (S.write_faults sink.new) }
-    ensures later { S.write_faults sink.old ≤ S.write_faults sink.new }
-    ensures same { KeepsCount result (S.write_faults sink.old) (S.write_faults sink.new) }
-    ensures by { S.by_write sink.old sink.new }
+    ensures writes { Writes S.Sink result sink.old sink.new (flat_map (lines_text engine.now.size engine.now.rows.nodes) engine.now.rows.quotas) }
     ensures looks { steps.new ≤ steps.old + sum_by (λ quota. path_cost engine.now.rows.nodes quota.folder) engine.now.rows.quotas }
 {
     let objects = engine.objects();
@@ -165,11 +148,7 @@ fn write_asked<S: Sink, L: Ledger>(
     steps: &mut Steps<L>,
 ) -> Result<(), TextFault>
     requires { IsNamed engine.now.rows (Listing (Quotas folder)) }
-    ensures text { Sends result (S.shown sink.old) (S.shown sink.new) (list_lines engine.now.size engine.now.rows (Quotas folder)) }
-    ensures fault { IsErrOf result TextFault.WriteFault → Rose (S.write_faults sink.old) (S.write_faults sink.new) }
-    ensures later { S.write_faults sink.old ≤ S.write_faults sink.new }
-    ensures same { KeepsCount result (S.write_faults sink.old) (S.write_faults sink.new) }
-    ensures by { S.by_write sink.old sink.new }
+    ensures writes { Writes S.Sink result sink.old sink.new (list_lines engine.now.size engine.now.rows (Quotas folder)) }
     ensures looks { steps.new ≤ steps.old + list_cost engine.now.rows (Quotas folder) }
 {
     match folder {
@@ -183,11 +162,7 @@ fn write_asked<S: Sink, L: Ledger>(
 
 // Writes what the engine is set to, how many scans wait, and how full the store is.
 fn write_settings<S: Sink>(sink: &mut S, engine: &Engine) -> Result<(), TextFault>
-    ensures text { Sends result (S.shown sink.old) (S.shown sink.new) (list_lines engine.now.size engine.now.rows Settings) }
-    ensures fault { IsErrOf result TextFault.WriteFault → Rose (S.write_faults sink.old) (S.write_faults sink.new) }
-    ensures later { S.write_faults sink.old ≤ S.write_faults sink.new }
-    ensures same { KeepsCount result (S.write_faults sink.old) (S.write_faults sink.new) }
-    ensures by { S.by_write sink.old sink.new }
+    ensures writes { Writes S.Sink result sink.old sink.new (list_lines engine.now.size engine.now.rows Settings) }
 {
     let settings = engine.settings();
     let tree = engine.tree();
@@ -221,11 +196,7 @@ pub fn write_list<S: Sink, L: Ledger>(
     steps: &mut Steps<L>,
 ) -> Result<(), TextFault>
     requires { IsNamed engine.now.rows (Listing ask.now) }
-    ensures text { Sends result (S.shown sink.old) (S.shown sink.new) (list_lines engine.now.size engine.now.rows ask.now) }
-    ensures fault { IsErrOf result TextFault.WriteFault → Rose (S.write_faults sink.old) (S.write_faults sink.new) }
-    ensures later { S.write_faults sink.old ≤ S.write_faults sink.new }
-    ensures same { KeepsCount result (S.write_faults sink.old) (S.write_faults sink.new) }
-    ensures by { S.by_write sink.old sink.new }
+    ensures writes { Writes S.Sink result sink.old sink.new (list_lines engine.now.size engine.now.rows ask.now) }
     ensures looks { steps.new ≤ steps.old + list_cost engine.now.rows ask.now }
 {
     match *ask {

@@ -1,6 +1,6 @@
 //! Writes the lists of templates and of auto-apply quotas.
 
-ghost use Rattle.std.specs.Prelude.{◌≡◌, ◌+◌, ◌≤◌, ◌∷◌, [], IsErrOf, Some, decimal};
+ghost use Rattle.std.specs.Prelude.{◌≡◌, ◌+◌, ◌≤◌, ◌∷◌, [], Some, decimal};
 ghost use Rattle.fsrm_base.specs.Keyed.{row_of};
 ghost use Rattle.fsrm_model.specs.declared.command.Ask.TheVariants.{Autos, Templates};
 ghost use Rattle.fsrm_model.specs.objects.AutoApply.{auto_folder};
@@ -8,9 +8,8 @@ ghost use Rattle.fsrm_model.specs.commands.Cost.{list_cost, path_cost};
 ghost use Rattle.fsrm_model.specs.texts.Printed.{body_line, type_word};
 ghost use Rattle.fsrm_model.specs.texts.Text.{list_lines};
 ghost use Rattle.fsrm_model.specs.store.Valid.{IsValid};
-ghost use Rattle.fsrm_outside.specs.Causes.{Rose};
 ghost use Rattle.reply_text.specs.Lines.{auto_text, template_text};
-ghost use Rattle.reply_text.specs.Writes.{KeepsCount, Sends};
+ghost use Rattle.reply_text.specs.Writes.{Writes};
 
 use crate::actions::write_thresholds;
 use crate::fault::TextFault;
@@ -24,11 +23,7 @@ use std::alloc::Global;
 
 // Writes the first line of a template: its limit, its type and its name.
 fn write_head<S: Sink>(sink: &mut S, template: &TemplateRow) -> Result<(), TextFault>
-    ensures text { Sends result (S.shown sink.old) (S.shown sink.new) (body_line (decimal template.now.limit ∷ type_word template.now.enforce ∷ template.now.name ∷ [])) }
-    ensures fault { IsErrOf result TextFault.WriteFault → Rose (S.write_faults sink.old) (S.write_faults sink.new) }
-    ensures later { S.write_faults sink.old ≤ S.write_faults sink.new }
-    ensures same { KeepsCount result (S.write_faults sink.old) (S.write_faults sink.new) }
-    ensures by { S.by_write sink.old sink.new }
+    ensures writes { Writes S.Sink result sink.old sink.new (body_line (decimal template.now.limit ∷ type_word template.now.enforce ∷ template.now.name ∷ [])) }
 {
     send(
         sink,
@@ -46,11 +41,7 @@ fn write_head<S: Sink>(sink: &mut S, template: &TemplateRow) -> Result<(), TextF
 
 // Writes the lines of a template.
 fn write_template<S: Sink>(sink: &mut S, template: &TemplateRow) -> Result<(), TextFault>
-    ensures text { Sends result (S.shown sink.old) (S.shown sink.new) (template_text template.now) }
-    ensures fault { IsErrOf result TextFault.WriteFault → Rose (S.write_faults sink.old) (S.write_faults sink.new) }
-    ensures later { S.write_faults sink.old ≤ S.write_faults sink.new }
-    ensures same { KeepsCount result (S.write_faults sink.old) (S.write_faults sink.new) }
-    ensures by { S.by_write sink.old sink.new }
+    ensures writes { Writes S.Sink result sink.old sink.new (template_text template.now) }
 {
     write_head(sink, template)?;
     write_thresholds(sink, template.thresholds.as_slice())
@@ -58,11 +49,7 @@ fn write_template<S: Sink>(sink: &mut S, template: &TemplateRow) -> Result<(), T
 
 /// Writes the lines of all templates.
 pub fn write_templates<S: Sink>(sink: &mut S, engine: &Engine) -> Result<(), TextFault>
-    ensures text { Sends result (S.shown sink.old) (S.shown sink.new) (list_lines engine.now.size engine.now.rows Templates) }
-    ensures fault { IsErrOf result TextFault.WriteFault → Rose (S.write_faults sink.old) (S.write_faults sink.new) }
-    ensures later { S.write_faults sink.old ≤ S.write_faults sink.new }
-    ensures same { KeepsCount result (S.write_faults sink.old) (S.write_faults sink.new) }
-    ensures by { S.by_write sink.old sink.new }
+    ensures writes { Writes S.Sink result sink.old sink.new (list_lines engine.now.size engine.now.rows Templates) }
 {
     let templates = engine.templates();
     for place in 0..templates.template_count() {
@@ -81,11 +68,7 @@ fn write_auto<S: Sink, L: Ledger>(
 ) -> Result<(), TextFault>
     requires store { IsValid engine.now.size engine.now.rows }
     requires own { row_of auto_folder auto.now.folder engine.now.rows.autos ≡ Some auto.now }
-    ensures text { Sends result (S.shown sink.old) (S.shown sink.new) (auto_text engine.now.rows.nodes engine.now.rows.templates auto.now) }
-    ensures fault { IsErrOf result TextFault.WriteFault → Rose (S.write_faults sink.old) (S.write_faults sink.new) }
-    ensures later { S.write_faults sink.old ≤ S.write_faults sink.new }
-    ensures same { KeepsCount result (S.write_faults sink.old) (S.write_faults sink.new) }
-    ensures by { S.by_write sink.old sink.new }
+    ensures writes { Writes S.Sink result sink.old sink.new (auto_text engine.now.rows.nodes engine.now.rows.templates auto.now) }
     ensures looks { steps.new ≤ steps.old + path_cost engine.now.rows.nodes auto.now.folder }
 {
     let path = engine.path_text(alloc, auto.folder, steps)?;
@@ -102,11 +85,7 @@ pub fn write_autos<S: Sink, L: Ledger>(
     engine: &Engine,
     steps: &mut Steps<L>,
 ) -> Result<(), TextFault>
-    ensures text { Sends result (S.shown sink.old) (S.shown sink.new) (list_lines engine.now.size engine.now.rows Autos) }
-    ensures fault { IsErrOf result TextFault.WriteFault → Rose (S.write_faults sink.old) (S.write_faults sink.new) }
-    ensures later { S.write_faults sink.old ≤ S.write_faults sink.new }
-    ensures same { KeepsCount result (S.write_faults sink.old) (S.write_faults sink.new) }
-    ensures by { S.by_write sink.old sink.new }
+    ensures writes { Writes S.Sink result sink.old sink.new (list_lines engine.now.size engine.now.rows Autos) }
     ensures looks { steps.new ≤ steps.old + list_cost engine.now.rows Autos }
 {
     let templates = engine.templates();

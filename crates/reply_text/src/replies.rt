@@ -1,13 +1,12 @@
 //! Writes replies.
 
-ghost use Rattle.std.specs.Prelude.{◌≡◌, ℕ, ◌+◌, ◌≤◌, false, is_some, IsErrOf};
+ghost use Rattle.std.specs.Prelude.{◌≡◌, ℕ, ◌+◌, ◌≤◌, false, is_some};
 ghost use Rattle.fsrm_model.specs.declared.command.Outcome.TheVariants.{Refused};
 ghost use Rattle.fsrm_model.specs.commands.Cost.{print_cost};
 ghost use Rattle.fsrm_model.specs.meaning.Named.{IsNamed};
 ghost use Rattle.fsrm_model.specs.texts.Text.{is_report, head_line, reply};
-ghost use Rattle.fsrm_outside.specs.Causes.{Rose};
 ghost use Rattle.reply_text.specs.Lines.{is_listing};
-ghost use Rattle.reply_text.specs.Writes.{KeepsCount, Sends};
+ghost use Rattle.reply_text.specs.Writes.{Writes};
 
 use crate::fault::TextFault;
 use crate::heads::{
@@ -29,11 +28,7 @@ fn write_refusal<S: Sink, L: Ledger>(
     steps: &mut Steps<L>,
 ) -> Result<(), TextFault>
     requires { IsNamed engine.now.rows (Refused refusal.now) }
-    ensures text { Sends result (S.shown sink.old) (S.shown sink.new) (head_line engine.now.rows.nodes line (Refused refusal.now)) }
-    ensures fault { IsErrOf result TextFault.WriteFault → Rose (S.write_faults sink.old) (S.write_faults sink.new) }
-    ensures later { S.write_faults sink.old ≤ S.write_faults sink.new }
-    ensures same { KeepsCount result (S.write_faults sink.old) (S.write_faults sink.new) }
-    ensures by { S.by_write sink.old sink.new }
+    ensures writes { Writes S.Sink result sink.old sink.new (head_line engine.now.rows.nodes line (Refused refusal.now)) }
     ensures looks { steps.new ≤ steps.old + print_cost engine.now.rows (Refused refusal.now) }
 {
     match refusal {
@@ -64,11 +59,7 @@ fn write_one<S: Sink, L: Ledger>(
 ) -> Result<(), TextFault>
     requires named { IsNamed engine.now.rows outcome.now }
     requires one { is_listing outcome.now ≡ false }
-    ensures text { (moment : ℕ) → Sends result (S.shown sink.old) (S.shown sink.new) (reply engine.now.size engine.now.rows moment line outcome.now) }
-    ensures fault { IsErrOf result TextFault.WriteFault → Rose (S.write_faults sink.old) (S.write_faults sink.new) }
-    ensures later { S.write_faults sink.old ≤ S.write_faults sink.new }
-    ensures same { KeepsCount result (S.write_faults sink.old) (S.write_faults sink.new) }
-    ensures by { S.by_write sink.old sink.new }
+    ensures writes { (moment : ℕ) → Writes S.Sink result sink.old sink.new (reply engine.now.size engine.now.rows moment line outcome.now) }
     ensures looks { steps.new ≤ steps.old + print_cost engine.now.rows outcome.now }
 {
     match outcome {
@@ -109,11 +100,7 @@ pub fn write_answer<S: Sink, L: Ledger>(
 ) -> Result<(), TextFault>
     requires named { IsNamed engine.now.rows answer.now.outcome }
     requires table { is_some table ≡ is_report answer.now.outcome }
-    ensures text { (moment : ℕ) → Sends result (S.shown sink.old) (S.shown sink.new) (reply engine.now.size engine.now.rows moment line answer.now.outcome) }
-    ensures fault { IsErrOf result TextFault.WriteFault → Rose (S.write_faults sink.old) (S.write_faults sink.new) }
-    ensures later { S.write_faults sink.old ≤ S.write_faults sink.new }
-    ensures same { KeepsCount result (S.write_faults sink.old) (S.write_faults sink.new) }
-    ensures by { S.by_write sink.old sink.new }
+    ensures writes { (moment : ℕ) → Writes S.Sink result sink.old sink.new (reply engine.now.size engine.now.rows moment line answer.now.outcome) }
     ensures looks { steps.new ≤ steps.old + print_cost engine.now.rows answer.now.outcome }
 {
     match &answer.outcome {

@@ -1,6 +1,6 @@
 //! Writes the lists of screens and of exceptions.
 
-ghost use Rattle.std.specs.Prelude.{◌≡◌, ◌+◌, ◌≤◌, ◌∷◌, [], IsErrOf, Some};
+ghost use Rattle.std.specs.Prelude.{◌≡◌, ◌+◌, ◌≤◌, ◌∷◌, [], Some};
 ghost use Rattle.fsrm_base.specs.Keyed.{row_of};
 ghost use Rattle.fsrm_model.specs.declared.command.Ask.TheVariants.{Excepts, Screens};
 ghost use Rattle.fsrm_model.specs.commands.Cost.{list_cost, path_cost};
@@ -9,9 +9,8 @@ ghost use Rattle.fsrm_model.specs.objects.Screens.{except_folder, screen_folder}
 ghost use Rattle.fsrm_model.specs.texts.ScreenText.{mode_word};
 ghost use Rattle.fsrm_model.specs.texts.Text.{list_lines};
 ghost use Rattle.fsrm_model.specs.store.Valid.{IsValid};
-ghost use Rattle.fsrm_outside.specs.Causes.{Rose};
 ghost use Rattle.reply_text.specs.Lines.{except_text, screen_text};
-ghost use Rattle.reply_text.specs.Writes.{KeepsCount, Sends};
+ghost use Rattle.reply_text.specs.Writes.{Writes};
 
 use crate::actions::write_dos;
 use crate::fault::TextFault;
@@ -31,11 +30,7 @@ fn mode_word(active: bool) -> &'static [u8]
 
 // Writes the first line of a screen, whose folder has this path.
 fn write_mode<S: Sink>(sink: &mut S, active: bool, path: &str) -> Result<(), TextFault>
-    ensures text { Sends result (S.shown sink.old) (S.shown sink.new) (body_line (mode_word active ∷ path.now ∷ [])) }
-    ensures fault { IsErrOf result TextFault.WriteFault → Rose (S.write_faults sink.old) (S.write_faults sink.new) }
-    ensures later { S.write_faults sink.old ≤ S.write_faults sink.new }
-    ensures same { KeepsCount result (S.write_faults sink.old) (S.write_faults sink.new) }
-    ensures by { S.by_write sink.old sink.new }
+    ensures writes { Writes S.Sink result sink.old sink.new (body_line (mode_word active ∷ path.now ∷ [])) }
 {
     send(
         sink,
@@ -59,11 +54,7 @@ fn write_screen<S: Sink, L: Ledger>(
 ) -> Result<(), TextFault>
     requires store { IsValid engine.now.size engine.now.rows }
     requires own { row_of screen_folder screen.now.folder engine.now.rows.screens ≡ Some screen.now }
-    ensures text { Sends result (S.shown sink.old) (S.shown sink.new) (screen_text engine.now.rows.nodes engine.now.rows.groups screen.now) }
-    ensures fault { IsErrOf result TextFault.WriteFault → Rose (S.write_faults sink.old) (S.write_faults sink.new) }
-    ensures later { S.write_faults sink.old ≤ S.write_faults sink.new }
-    ensures same { KeepsCount result (S.write_faults sink.old) (S.write_faults sink.new) }
-    ensures by { S.by_write sink.old sink.new }
+    ensures writes { Writes S.Sink result sink.old sink.new (screen_text engine.now.rows.nodes engine.now.rows.groups screen.now) }
     ensures looks { steps.new ≤ steps.old + path_cost engine.now.rows.nodes screen.now.folder }
 {
     let path = engine.path_text(alloc, screen.folder, steps)?;
@@ -79,11 +70,7 @@ pub fn write_screens<S: Sink, L: Ledger>(
     engine: &Engine,
     steps: &mut Steps<L>,
 ) -> Result<(), TextFault>
-    ensures text { Sends result (S.shown sink.old) (S.shown sink.new) (list_lines engine.now.size engine.now.rows Screens) }
-    ensures fault { IsErrOf result TextFault.WriteFault → Rose (S.write_faults sink.old) (S.write_faults sink.new) }
-    ensures later { S.write_faults sink.old ≤ S.write_faults sink.new }
-    ensures same { KeepsCount result (S.write_faults sink.old) (S.write_faults sink.new) }
-    ensures by { S.by_write sink.old sink.new }
+    ensures writes { Writes S.Sink result sink.old sink.new (list_lines engine.now.size engine.now.rows Screens) }
     ensures looks { steps.new ≤ steps.old + list_cost engine.now.rows Screens }
 {
     let objects = engine.objects();
@@ -103,11 +90,7 @@ fn write_except<S: Sink, L: Ledger>(
 ) -> Result<(), TextFault>
     requires store { IsValid engine.now.size engine.now.rows }
     requires own { row_of except_folder except.now.folder engine.now.rows.excepts ≡ Some except.now }
-    ensures text { Sends result (S.shown sink.old) (S.shown sink.new) (except_text engine.now.rows.nodes engine.now.rows.groups except.now) }
-    ensures fault { IsErrOf result TextFault.WriteFault → Rose (S.write_faults sink.old) (S.write_faults sink.new) }
-    ensures later { S.write_faults sink.old ≤ S.write_faults sink.new }
-    ensures same { KeepsCount result (S.write_faults sink.old) (S.write_faults sink.new) }
-    ensures by { S.by_write sink.old sink.new }
+    ensures writes { Writes S.Sink result sink.old sink.new (except_text engine.now.rows.nodes engine.now.rows.groups except.now) }
     ensures looks { steps.new ≤ steps.old + path_cost engine.now.rows.nodes except.now.folder }
 {
     let path = engine.path_text(alloc, except.folder, steps)?;
@@ -122,11 +105,7 @@ pub fn write_excepts<S: Sink, L: Ledger>(
     engine: &Engine,
     steps: &mut Steps<L>,
 ) -> Result<(), TextFault>
-    ensures text { Sends result (S.shown sink.old) (S.shown sink.new) (list_lines engine.now.size engine.now.rows Excepts) }
-    ensures fault { IsErrOf result TextFault.WriteFault → Rose (S.write_faults sink.old) (S.write_faults sink.new) }
-    ensures later { S.write_faults sink.old ≤ S.write_faults sink.new }
-    ensures same { KeepsCount result (S.write_faults sink.old) (S.write_faults sink.new) }
-    ensures by { S.by_write sink.old sink.new }
+    ensures writes { Writes S.Sink result sink.old sink.new (list_lines engine.now.size engine.now.rows Excepts) }
     ensures looks { steps.new ≤ steps.old + list_cost engine.now.rows Excepts }
 {
     let objects = engine.objects();

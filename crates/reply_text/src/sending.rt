@@ -1,9 +1,8 @@
 //! Sends lines to a sink: a short one whole, and the parts of another one after another.
 
-ghost use Rattle.std.specs.Prelude.{◌≡◌, ◌≤◌, ◌+◌, ◌++◌, ◌∷◌, [], IsErrOf, decimal, drop, flat_map, length};
-ghost use Rattle.fsrm_outside.specs.Causes.{Rose};
+ghost use Rattle.std.specs.Prelude.{◌≡◌, ◌≤◌, ◌+◌, ◌++◌, ◌∷◌, [], decimal, drop, flat_map, length};
 ghost use Rattle.reply_text.specs.Parts.{part_text};
-ghost use Rattle.reply_text.specs.Writes.{KeepsCount, Sends};
+ghost use Rattle.reply_text.specs.Writes.{Writes};
 
 use crate::fault::TextFault;
 use fsrm_outside::{Sink, write_all};
@@ -27,22 +26,14 @@ pub enum Part<'a> {
 // Writes bytes whole, or a front of them if the sink fails.
 #[inline]
 fn send_bytes<S: Sink>(sink: &mut S, bytes: &[u8]) -> Result<(), TextFault>
-    ensures text { Sends result (S.shown sink.old) (S.shown sink.new) bytes.now }
-    ensures fault { IsErrOf result TextFault.WriteFault → Rose (S.write_faults sink.old) (S.write_faults sink.new) }
-    ensures later { S.write_faults sink.old ≤ S.write_faults sink.new }
-    ensures same { KeepsCount result (S.write_faults sink.old) (S.write_faults sink.new) }
-    ensures by { S.by_write sink.old sink.new }
+    ensures writes { Writes S.Sink result sink.old sink.new bytes.now }
 {
     write_all(sink, bytes)?;
     Ok(())
 }
 
 fn send_number<S: Sink>(sink: &mut S, number: u64) -> Result<(), TextFault>
-    ensures text { Sends result (S.shown sink.old) (S.shown sink.new) (decimal number) }
-    ensures fault { IsErrOf result TextFault.WriteFault → Rose (S.write_faults sink.old) (S.write_faults sink.new) }
-    ensures later { S.write_faults sink.old ≤ S.write_faults sink.new }
-    ensures same { KeepsCount result (S.write_faults sink.old) (S.write_faults sink.new) }
-    ensures by { S.by_write sink.old sink.new }
+    ensures writes { Writes S.Sink result sink.old sink.new (decimal number) }
 {
     let mut digits = [0u8; MOST_DIGITS];
     let start = write_digits(number, &mut digits, MOST_DIGITS);
@@ -50,11 +41,7 @@ fn send_number<S: Sink>(sink: &mut S, number: u64) -> Result<(), TextFault>
 }
 
 fn send_part<S: Sink>(sink: &mut S, part: &Part) -> Result<(), TextFault>
-    ensures text { Sends result (S.shown sink.old) (S.shown sink.new) (part_text part.now) }
-    ensures fault { IsErrOf result TextFault.WriteFault → Rose (S.write_faults sink.old) (S.write_faults sink.new) }
-    ensures later { S.write_faults sink.old ≤ S.write_faults sink.new }
-    ensures same { KeepsCount result (S.write_faults sink.old) (S.write_faults sink.new) }
-    ensures by { S.by_write sink.old sink.new }
+    ensures writes { Writes S.Sink result sink.old sink.new (part_text part.now) }
 {
     match *part {
         Part::Number(number) => send_number(sink, number),
@@ -78,11 +65,7 @@ fn put_text(text: &[u8], line: &mut [u8], end: usize) -> usize
 /// since that takes less time than another write.
 pub fn send_short<S: Sink>(sink: &mut S, number: u64, text: &[u8]) -> Result<(), TextFault>
     requires { length text.now ≤ 44 }
-    ensures text { Sends result (S.shown sink.old) (S.shown sink.new) (decimal number ++ text.now) }
-    ensures fault { IsErrOf result TextFault.WriteFault → Rose (S.write_faults sink.old) (S.write_faults sink.new) }
-    ensures later { S.write_faults sink.old ≤ S.write_faults sink.new }
-    ensures same { KeepsCount result (S.write_faults sink.old) (S.write_faults sink.new) }
-    ensures by { S.by_write sink.old sink.new }
+    ensures writes { Writes S.Sink result sink.old sink.new (decimal number ++ text.now) }
 {
     let mut line = [0u8; SHORT_LINE];
     let text_start = put_text(text, &mut line, SHORT_LINE);
@@ -98,11 +81,7 @@ pub fn send_short_with<S: Sink>(
     last: u64,
 ) -> Result<(), TextFault>
     requires { length text.now ≤ 23 }
-    ensures text { Sends result (S.shown sink.old) (S.shown sink.new) (decimal number ++ (text.now ++ (decimal last ++ 10 ∷ []))) }
-    ensures fault { IsErrOf result TextFault.WriteFault → Rose (S.write_faults sink.old) (S.write_faults sink.new) }
-    ensures later { S.write_faults sink.old ≤ S.write_faults sink.new }
-    ensures same { KeepsCount result (S.write_faults sink.old) (S.write_faults sink.new) }
-    ensures by { S.by_write sink.old sink.new }
+    ensures writes { Writes S.Sink result sink.old sink.new (decimal number ++ (text.now ++ (decimal last ++ 10 ∷ []))) }
 {
     let mut line = [b'\n'; SHORT_LINE];
     let last_start = write_digits(last, &mut line, SHORT_LINE - 1);
@@ -113,11 +92,7 @@ pub fn send_short_with<S: Sink>(
 
 /// Writes the parts, or a front of them if the sink fails. No part is written after a failed write.
 pub fn send<S: Sink>(sink: &mut S, parts: &[Part]) -> Result<(), TextFault>
-    ensures text { Sends result (S.shown sink.old) (S.shown sink.new) (flat_map part_text parts.now) }
-    ensures fault { IsErrOf result TextFault.WriteFault → Rose (S.write_faults sink.old) (S.write_faults sink.new) }
-    ensures later { S.write_faults sink.old ≤ S.write_faults sink.new }
-    ensures same { KeepsCount result (S.write_faults sink.old) (S.write_faults sink.new) }
-    ensures by { S.by_write sink.old sink.new }
+    ensures writes { Writes S.Sink result sink.old sink.new (flat_map part_text parts.now) }
 {
     'parts: for part in parts {
         send_part(sink, part)?;

@@ -18,7 +18,7 @@ returns-clause-takes g c =
     let mid = c.next_piece.new.outside in
     let last = c.answer_piece.new.sink in
     let read = g.met.O.Outside.read_keeps_sink first mid c.in_ok-count.ensures.by in
-    let write = g.met.O.Outside.write_keeps_source mid last c.in_ok-answer_piece.ensures.by in
+    let write = g.met.O.Outside.write_keeps_source mid last c.in_ok-answer_piece.ensures.device.by in
     takes_piece (state_of c.args.session.now c.args.steps.now) (state_of c.answer_piece.new.session c.answer_piece.new.steps) (take c.in_ok-count.count c.next_piece.new.buffer) (source.left first) (source.left mid) (source.left last) (sink.shown first) (sink.shown mid) (sink.shown last) c.in_ok-count.count (piece_length c.next_piece.new.buffer c.in_ok-count.count c.in_ok-count.ensures.bound) c.in_ok-count.ensures.bytes write.same_left read.same_shown c.in_ok-answer_piece.ensures.ok
 
 pub returns-in_err-answer_piece-clause-stops : goal.returns-in_err-answer_piece-clause-stops
@@ -30,7 +30,7 @@ returns-in_err-answer_piece-clause-stops g c =
     let last = c.answer_piece.new.sink in
     let start = state_of c.args.session.now c.args.steps.now in
     let read = g.met.O.Outside.read_keeps_sink first mid c.in_ok-count.ensures.by in
-    let write = g.met.O.Outside.write_keeps_source mid last c.in_err-answer_piece.ensures.by in
+    let write = g.met.O.Outside.write_keeps_source mid last c.in_err-answer_piece.ensures.device.by in
     let p = err_from_is_err_and c.from_residual-in_err-answer_piece.result c.from_residual-in_err-answer_piece.ensures.1 in
     rw (p.1, p.2) (stops_given_up c.in_err-answer_piece.field-0.0 start (state_of c.answer_piece.new.session c.answer_piece.new.steps) (source.left first) (source.left last) (sink.shown first) (sink.shown last) 0
     (gives_up start c.answer_piece.new.steps (take c.in_ok-count.count c.next_piece.new.buffer) (source.left first) (source.left mid) (source.left last) (sink.shown first) (sink.shown mid) (sink.shown last) c.in_ok-count.ensures.bytes write.same_left read.same_shown c.in_err-answer_piece.ensures.err))
@@ -41,7 +41,7 @@ returns-in_err-answer_piece-clause-taken g c =
     let first = c.args.outside.now in
     let mid = c.next_piece.new.outside in
     let last = c.answer_piece.new.sink in
-    let write = g.met.O.Outside.write_keeps_source mid last c.in_err-answer_piece.ensures.by in
+    let write = g.met.O.Outside.write_keeps_source mid last c.in_err-answer_piece.ensures.device.by in
     let p = err_from_is_err_and c.from_residual-in_err-answer_piece.result c.from_residual-in_err-answer_piece.ensures.1 in
     rw (p.1, p.2) (taken_given_up c.in_err-answer_piece.field-0.0 (source.left first) (source.left mid) (source.left last) (take c.in_ok-count.count c.next_piece.new.buffer) c.in_ok-count.count c.args.taken c.in_ok-count.ensures.bytes write.same_left (piece_length c.next_piece.new.buffer c.in_ok-count.count c.in_ok-count.ensures.bound) c.in_ok-count.ensures.within)
 
@@ -65,12 +65,12 @@ returns-in_err-answer_piece-clause-write_cause g c = λ e.
     let fault = c.in_err-answer_piece.field-0.0 in
     let read = g.met.O.Outside.read_keeps_sink c.args.outside.now mid c.in_ok-count.ensures.by in
     write_failed c.answer_piece.result fault c.in_err-answer_piece.was
-    (subst (λ (before : ℕ). IsErrOf c.answer_piece.result WriteFailed → Rose before (faults c.answer_piece.new.sink)) read.same_faults c.answer_piece.ensures.fault)
+    (subst (λ (before : ℕ). IsErrOf c.answer_piece.result WriteFailed → Rose before (faults c.answer_piece.new.sink)) read.same_faults c.answer_piece.ensures.device.fault)
     (told ends.result fault WriteFault ends.ensures.1 e)
 
 pub returns-in_err-answer_piece-clause-reads_kept : goal.returns-in_err-answer_piece-clause-reads_kept
 returns-in_err-answer_piece-clause-reads_kept g c =
-    let write = g.met.O.Outside.write_keeps_source c.next_piece.new.outside c.answer_piece.new.sink c.in_err-answer_piece.ensures.by in
+    let write = g.met.O.Outside.write_keeps_source c.next_piece.new.outside c.answer_piece.new.sink c.in_err-answer_piece.ensures.device.by in
     let p = err_from_is_err_and c.from_residual-in_err-answer_piece.result c.from_residual-in_err-answer_piece.ensures.1 in
     rw (p.1, p.2) (keeps_reads c.in_err-answer_piece.field-0.0 _ _ (write.same_faults ∙ c.in_ok-count.ensures.kept))
 
@@ -80,7 +80,7 @@ returns-in_err-answer_piece-clause-writes_kept g c =
     let read = g.met.O.Outside.read_keeps_sink c.args.outside.now c.next_piece.new.outside c.in_ok-count.ensures.by in
     let p = err_from_is_err_and c.from_residual-in_err-answer_piece.result c.from_residual-in_err-answer_piece.ensures.1 in
     rw (p.1, p.2) (keeps_writes c.answer_piece.result c.in_err-answer_piece.field-0.0 _ _ c.in_err-answer_piece.was
-    (subst (λ (before : ℕ). KeepsCount c.answer_piece.result before (faults c.answer_piece.new.sink)) read.same_faults c.answer_piece.ensures.same))
+    (subst (λ (before : ℕ). KeepsCount c.answer_piece.result before (faults c.answer_piece.new.sink)) read.same_faults c.answer_piece.ensures.device.same))
 
 -- a read ended the run
 pub returns-in_err-count-clause-writes_kept : goal.returns-in_err-count-clause-writes_kept

@@ -26,7 +26,7 @@ returns-in-Ok-finish-clause-run g c = λ script told.
     let mid = c.read_all.new.outside in
     let last = c.finish.new.sink in
     let now = state_of c.read_all.new.session c.read_all.new.steps in
-    let write = g.met.O.Outside.write_keeps_source mid last c.finish.ensures.by in
+    let write = g.met.O.Outside.write_keeps_source mid last c.finish.ensures.device.by in
     done_run c.args.session.now.engine.size c.args.session.now.engine.rows c.args.steps.now c.finish.new.steps now script (source.left mid) (source.left last) s0 (sink.shown mid) (sink.shown last) write.same_left
     (subst (λ (left : Option (List ℕ)). Reads (start c.args.session.now.engine.size c.args.session.now.engine.rows c.args.steps.now) now left (source.left mid) s0 (sink.shown mid)) told
     (subst (λ (a : State). Reads a now (source.left c.args.outside.now) (source.left mid) s0 (sink.shown mid)) c.requires.state c.in-Ok.ensures.reads))

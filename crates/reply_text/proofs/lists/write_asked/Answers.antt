@@ -5,7 +5,7 @@ use Rattle.fsrm_model.specs.declared.command.Outcome.TheVariants.{Listing}
 use Rattle.fsrm_model.specs.commands.Cost.{list_cost}
 use Rattle.fsrm_model.specs.meaning.Named.{IsNamed}
 use Rattle.fsrm_model.specs.texts.Text.{list_lines}
-use Rattle.reply_text.proofs.Sent.{sent}
+use Rattle.reply_text.proofs.Sent.{told}
 use Rattle.reply_text.proofs.Quotas.{lent_found, lent_row, own_row, all_lines, one_line, one_cost}
 use Rattle.reply_text.proofs.lists.write_asked.Goals as goal
 
@@ -20,20 +20,18 @@ write_quota-requires-clause-own g c =
     let quotas = c.args.engine.now.rows.quotas in
     own_row quotas c.in-Some.folder c.unwrap-quota.result.now (lent_row c.quota.result c.unwrap-quota.result c.objects.result.now.quotas quotas c.in-Some.folder c.quota.ensures c.objects.ensures.quotas c.unwrap-quota.ensures)
 
-pub returns-in-None-clause-text : goal.returns-in-None-clause-text
-returns-in-None-clause-text g c =
-    let sink = g.S.Sink in
+pub returns-in-None-clause-writes : goal.returns-in-None-clause-writes
+returns-in-None-clause-writes g c =
     let engine = c.args.engine.now in
     let is : c.args.folder ≡ None = c.in-None.is in
-    sent c.write_quotas.result (sink.shown c.args.sink.now) (sink.shown c.write_quotas.new.sink) _ _ (all_lines engine.size engine.rows ∙ ap (λ asked. list_lines engine.size engine.rows (Quotas asked)) (sym is)) c.write_quotas.ensures.text
+    told (all_lines engine.size engine.rows ∙ ap (λ asked. list_lines engine.size engine.rows (Quotas asked)) (sym is)) c.write_quotas.ensures.writes
 
-pub returns-in-Some-clause-text : goal.returns-in-Some-clause-text
-returns-in-Some-clause-text g c =
-    let sink = g.S.Sink in
+pub returns-in-Some-clause-writes : goal.returns-in-Some-clause-writes
+returns-in-Some-clause-writes g c =
     let engine = c.args.engine.now in
     let is : c.args.folder ≡ Some c.in-Some.folder = c.in-Some.is in
     let found = lent_row c.quota.result c.unwrap-quota.result c.objects.result.now.quotas engine.rows.quotas c.in-Some.folder c.quota.ensures c.objects.ensures.quotas c.unwrap-quota.ensures in
-    sent c.write_quota.result (sink.shown c.args.sink.now) (sink.shown c.write_quota.new.sink) _ _ (one_line engine.size engine.rows c.in-Some.folder c.unwrap-quota.result.now c.objects.ensures.store found ∙ ap (λ asked. list_lines engine.size engine.rows (Quotas asked)) (sym is)) c.write_quota.ensures.text
+    told (one_line engine.size engine.rows c.in-Some.folder c.unwrap-quota.result.now c.objects.ensures.store found ∙ ap (λ asked. list_lines engine.size engine.rows (Quotas asked)) (sym is)) c.write_quota.ensures.writes
 
 pub returns-in-Some-clause-looks : goal.returns-in-Some-clause-looks
 returns-in-Some-clause-looks g c =

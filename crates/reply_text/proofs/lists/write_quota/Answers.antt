@@ -1,8 +1,8 @@
-use Rattle.std.proofs.Common.{◌≡◌, ◌∙◌}
+use Rattle.std.proofs.Common.{◌≡◌, ◌∙◌, refl}
 use Rattle.reply_text.specs.Lines.{line_text, quota_text}
 use Rattle.reply_text.proofs.Nodes.{is_node}
-use Rattle.reply_text.proofs.Quotas.{in_time, line_same, row_front, row_then}
-use Rattle.reply_text.proofs.Sent.{sends_front}
+use Rattle.reply_text.proofs.Quotas.{in_time, line_same, lines_shown}
+use Rattle.reply_text.proofs.Sent.{cut_first, passed_on, two_texts}
 use Rattle.reply_text.proofs.lists.write_quota.Goals as goal
 
 pub path_text-requires : goal.path_text-requires
@@ -14,24 +14,22 @@ path_text-requires g c =
 pub write_row-requires : goal.write_row-requires
 write_row-requires g c = in_time c.args.engine.now.size c.args.engine.now.rows c.args.quota.now c.requires.store c.requires.own
 
-pub returns-in_err-write_row-clause-text : goal.returns-in_err-write_row-clause-text
-returns-in_err-write_row-clause-text g c =
-    let sink = g.S.Sink in
+pub returns-in_err-write_row-clause-writes : goal.returns-in_err-write_row-clause-writes
+returns-in_err-write_row-clause-writes g c =
     let engine = c.args.engine.now in
     let quota = c.args.quota.now in
     let used = c.used-used.result in
     let path = c.as_str.result.now in
     let same : quota_text quota used path ≡ line_text engine.size engine.rows.nodes quota = line_same engine.size engine.rows quota used path c.requires.own c.used-used.ensures (c.as_str.ensures ∙ c.in_ok-path.ensures.text) in
-    sends_front c.from_residual-in_err-write_row.result _ _ _ c.from_residual-in_err-write_row.ensures.0
-    (row_front engine.size engine.rows.nodes quota (quota_text quota used path) (sink.shown c.args.sink.now) (sink.shown c.write_row.new.sink) same c.in_err-write_row.ensures.text)
+    passed_on c.from_residual-in_err-write_row.result c.from_residual-in_err-write_row.ensures.1
+    (cut_first _ (lines_shown engine.size engine.rows.nodes quota (quota_text quota used path) quota.thresholds same refl) c.in_err-write_row.ensures.writes)
 
-pub returns-clause-text : goal.returns-clause-text
-returns-clause-text g c =
-    let sink = g.S.Sink in
+pub returns-clause-writes : goal.returns-clause-writes
+returns-clause-writes g c =
     let engine = c.args.engine.now in
     let quota = c.args.quota.now in
     let used = c.used-used.result in
     let path = c.as_str.result.now in
     let same : quota_text quota used path ≡ line_text engine.size engine.rows.nodes quota = line_same engine.size engine.rows quota used path c.requires.own c.used-used.ensures (c.as_str.ensures ∙ c.in_ok-path.ensures.text) in
-    row_then c.write_thresholds.result engine.size engine.rows.nodes quota (quota_text quota used path) c.as_slice.result.now (sink.shown c.args.sink.now) (sink.shown c.write_row.new.sink) (sink.shown c.write_thresholds.new.sink)
-    same c.as_slice.ensures c.in_ok-write_row.ensures.text c.write_thresholds.ensures.text
+    two_texts g.met.S.Sink.write_then (lines_shown engine.size engine.rows.nodes quota (quota_text quota used path) c.as_slice.result.now same c.as_slice.ensures)
+    c.in_ok-write_row.ensures.writes c.write_thresholds.ensures.writes

@@ -1,18 +1,20 @@
 use Rattle.std.proofs.Common.{refl}
 use Rattle.reply_text.proofs.TemplateLines.{template_shown}
-use Rattle.reply_text.proofs.Sent.{front_first, sends_front, sends_second}
+use Rattle.reply_text.proofs.Sent.{cut_first, passed_on, two_texts}
 use Rattle.reply_text.proofs.quota_templates.write_template.Goals as goal
 
-pub returns-in_err-write_head-clause-text : goal.returns-in_err-write_head-clause-text
-returns-in_err-write_head-clause-text g c =
-    let sink = g.S.Sink in
+pub returns-in_err-write_head : goal.returns-in_err-write_head
+returns-in_err-write_head g c =
     let template = c.args.template.now in
-    sends_front c.from_residual.result _ _ _ c.from_residual.ensures.0
-    (front_first (sink.shown c.args.sink.now) (sink.shown c.write_head.new.sink) _ _ _ (template_shown template template.thresholds refl) c.in_err-write_head.ensures.text)
+    record {
+      writes = passed_on c.from_residual.result c.from_residual.ensures.1
+          (cut_first _ (template_shown template template.thresholds refl) c.in_err-write_head.ensures.writes);
+    }
 
-pub returns-clause-text : goal.returns-clause-text
-returns-clause-text g c =
-    let sink = g.S.Sink in
-    sends_second c.write_thresholds.result (sink.shown c.args.sink.now) (sink.shown c.write_head.new.sink) (sink.shown c.write_thresholds.new.sink) _ _ _
-    (template_shown c.args.template.now c.as_slice.result.now c.as_slice.ensures)
-    c.in_ok-write_head.ensures.text c.write_thresholds.ensures.text
+pub returns : goal.returns
+returns g c =
+    record {
+      writes = two_texts g.met.S.Sink.write_then
+          (template_shown c.args.template.now c.as_slice.result.now c.as_slice.ensures)
+          c.in_ok-write_head.ensures.writes c.write_thresholds.ensures.writes;
+    }

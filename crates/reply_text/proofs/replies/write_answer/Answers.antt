@@ -1,16 +1,15 @@
-use Rattle.reply_text.proofs.Sent.{sends_front}
-use Rattle.reply_text.proofs.Answered.{head_front, list_text}
+use Rattle.reply_text.proofs.Sent.{cut_first, passed_on, two_texts}
+use Rattle.reply_text.proofs.Answered.{list_text}
 use Rattle.reply_text.proofs.replies.write_answer.Goals as goal
 
-pub returns-in_err-write_ok-in-Listing-clause-text : goal.returns-in_err-write_ok-in-Listing-clause-text
-returns-in_err-write_ok-in-Listing-clause-text g c = λ moment.
-    let sink = g.S.Sink in
+pub returns-in_err-write_ok-in-Listing-clause-writes : goal.returns-in_err-write_ok-in-Listing-clause-writes
+returns-in_err-write_ok-in-Listing-clause-writes g c = λ moment.
     let e = c.args.engine.now in
-    sends_front c.from_residual.result _ _ _ c.from_residual.ensures.0
-    (head_front e.size e.rows moment c.args.line c.in-Listing.ask c.args.answer.now.outcome (sink.shown c.args.sink.now) (sink.shown c.write_ok.new.sink) c.in-Listing.is (c.in_err-write_ok-in-Listing.ensures.text e.rows.nodes))
+    passed_on c.from_residual.result c.from_residual.ensures.1
+    (cut_first _ (list_text e.size e.rows moment c.args.line c.in-Listing.ask c.args.answer.now.outcome c.in-Listing.is) (c.in_err-write_ok-in-Listing.ensures.writes e.rows.nodes))
 
-pub returns-in_ok-write_ok-in-Listing-clause-text : goal.returns-in_ok-write_ok-in-Listing-clause-text
-returns-in_ok-write_ok-in-Listing-clause-text g c = λ moment.
-    let sink = g.S.Sink in
+pub returns-in_ok-write_ok-in-Listing-clause-writes : goal.returns-in_ok-write_ok-in-Listing-clause-writes
+returns-in_ok-write_ok-in-Listing-clause-writes g c = λ moment.
     let e = c.args.engine.now in
-    list_text c.write_list.result e.size e.rows moment c.args.line c.in-Listing.ask c.args.answer.now.outcome (sink.shown c.args.sink.now) (sink.shown c.write_ok.new.sink) (sink.shown c.write_list.new.sink) c.in-Listing.is (c.in_ok-write_ok-in-Listing.ensures.text e.rows.nodes) c.write_list.ensures.text
+    two_texts g.met.S.Sink.write_then (list_text e.size e.rows moment c.args.line c.in-Listing.ask c.args.answer.now.outcome c.in-Listing.is)
+    (c.in_ok-write_ok-in-Listing.ensures.writes e.rows.nodes) c.write_list.ensures.writes

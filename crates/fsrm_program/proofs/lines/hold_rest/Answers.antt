@@ -2,7 +2,7 @@ use Rattle.std.proofs.Common.{refl}
 use Rattle.fsrm_program.specs.Held.{state_of}
 use Rattle.fsrm_program.proofs.Feeding.{fed_held}
 use Rattle.fsrm_program.proofs.Outcomes.{on_ok}
-use Rattle.fsrm_program.proofs.session.hold_rest.Goals as goal
+use Rattle.fsrm_program.proofs.lines.hold_rest.Goals as goal
 
 pub returns-clause-ok : goal.returns-clause-ok
 returns-clause-ok c = λ looks.

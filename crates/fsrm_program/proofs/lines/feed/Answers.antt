@@ -1,14 +1,14 @@
 use Rattle.std.proofs.Common.{◌++◌, ◌∷◌, [], List, ℕ, refl, sym, ◌∙◌, subst, arith, length-append}
-use Rattle.std.proofs.lemmas.Result.{err_from_is_err_and}
+use Rattle.reply_text.proofs.Sent.{device_passed_on, device_then, none_written, unwritten}
 use Rattle.fsrm_program.specs.Progress.{Feeds, FeedsBroken}
 use Rattle.fsrm_program.specs.Held.{state_of}
 use Rattle.fsrm_program.proofs.Cutting.{cut_more}
 use Rattle.fsrm_program.proofs.Feeding.{feeds_still, feeds_nothing, feeds_then, feeds_broken, feeds_broken_more, broken_still}
 use Rattle.fsrm_program.proofs.Outcomes.{always_err}
-use Rattle.fsrm_program.proofs.session.feed.Goals as goal
+use Rattle.fsrm_program.proofs.lines.feed.Goals as goal
 
 pub lines-init : goal.lines-init
-lines-init g c = ([], record { cut = refl; fed = feeds_nothing (state_of c.args.session.now c.args.steps.now) (g.S.Sink.shown c.args.sink.now); number = omega arith; idle = c.requires.idle; same = refl; by = g.met.S.Sink.write_same c.args.sink.now })
+lines-init g c = ([], record { cut = refl; fed = feeds_nothing (state_of c.args.session.now c.args.steps.now) (g.S.Sink.shown c.args.sink.now); number = omega arith; idle = c.requires.idle; device = (none_written c.args.sink.now g.met.S.Sink.write_same).device })
 
 pub lines-preserved : goal.lines-preserved
 lines-preserved g c =
@@ -25,8 +25,7 @@ lines-preserved g c =
         fed = feeds_then start now next done (line ++ 10 ∷ []) (sink.shown c.args.sink.now) (sink.shown c.lines.sink) (sink.shown c.answer_line.new.sink) kept.fed c.in_ok-answer_line.ensures.ok;
         number = omega (arith, kept.number, c.in_ok-answer_line.ensures.number, length-append done (line ++ 10 ∷ []), length-append line (10 ∷ []));
         idle = c.in_ok-answer_line.ensures.idle;
-        same = c.in_ok-answer_line.ensures.same ∙ kept.same;
-        by = g.met.S.Sink.write_then c.args.sink.now c.lines.sink c.answer_line.new.sink kept.by c.in_ok-answer_line.ensures.by;
+        device = device_then g.met.S.Sink.write_then kept.device c.in_ok-answer_line.ensures.device;
       },
     )
 
@@ -44,19 +43,6 @@ returns-in_err-answer_line-clause-err g c =
     always_err c.from_residual.result
     (subst (λ (bytes : List ℕ). FeedsBroken start c.answer_line.new.steps bytes first last) (sym cut)
     (feeds_broken_more start c.answer_line.new.steps (done ++ (line ++ 10 ∷ [])) c.in-Some.after.now first last (feeds_broken start now c.answer_line.new.steps done (line ++ 10 ∷ []) first (sink.shown c.lines.sink) last kept.fed c.in_err-answer_line.ensures.err)))
-
-pub returns-in_err-answer_line-clause-same : goal.returns-in_err-answer_line-clause-same
-returns-in_err-answer_line-clause-same g c =
-    let p = err_from_is_err_and c.from_residual.result c.from_residual.ensures.1 in
-    rw (p.1, p.2, sym c.lines.invariant.1.same) c.in_err-answer_line.ensures.same
-
-pub returns-in_err-answer_line-clause-fault : goal.returns-in_err-answer_line-clause-fault
-returns-in_err-answer_line-clause-fault g c =
-    let p = err_from_is_err_and c.from_residual.result c.from_residual.ensures.1 in
-    rw (p.1, p.2, sym c.lines.invariant.1.same) c.in_err-answer_line.ensures.fault
-
-pub returns-in_err-answer_line-clause-by : goal.returns-in_err-answer_line-clause-by
-returns-in_err-answer_line-clause-by g c = g.met.S.Sink.write_then c.args.sink.now c.lines.sink c.answer_line.new.sink c.lines.invariant.1.by c.in_err-answer_line.ensures.by
 
 pub returns-clause-ok : goal.returns-clause-ok
 returns-clause-ok g c =
@@ -88,10 +74,14 @@ answer_line-requires-clause-idle g c = c.lines.invariant.1.idle
 pub returns-clause-idle : goal.returns-clause-idle
 returns-clause-idle g c = c.hold_rest.ensures.idle ∙ c.lines.invariant.1.idle
 
-pub returns-clause-same : goal.returns-clause-same
-returns-clause-same g c = c.lines.invariant.1.same
+pub returns-clause-device : goal.returns-clause-device
+returns-clause-device g c = c.lines.invariant.1.device
 
-pub returns-in_err-hold_rest-clause-same : goal.returns-in_err-hold_rest-clause-same
-returns-in_err-hold_rest-clause-same g c =
-    let p = err_from_is_err_and c.from_residual-in_err-hold_rest.result c.from_residual-in_err-hold_rest.ensures.1 in
-    rw (p.1, p.2) c.lines.invariant.1.same
+pub returns-in_err-answer_line-clause-device : goal.returns-in_err-answer_line-clause-device
+returns-in_err-answer_line-clause-device g c =
+    device_passed_on c.from_residual.result c.from_residual.ensures.1 (device_then g.met.S.Sink.write_then c.lines.invariant.1.device c.in_err-answer_line.ensures.device)
+
+pub returns-in_err-hold_rest-clause-device : goal.returns-in_err-hold_rest-clause-device
+returns-in_err-hold_rest-clause-device g c =
+    let ends = c.from_residual-in_err-hold_rest in
+    device_then g.met.S.Sink.write_then c.lines.invariant.1.device (unwritten c.lines.sink [] ends.result g.met.S.Sink.write_same ends.ensures.1).device

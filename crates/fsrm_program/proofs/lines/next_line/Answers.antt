@@ -1,5 +1,5 @@
 use Rattle.fsrm_program.proofs.Cutting.{no_line_ends, line_ends}
-use Rattle.fsrm_program.proofs.session.next_line.Goals as goal
+use Rattle.fsrm_program.proofs.lines.next_line.Goals as goal
 
 pub returns-in-Some : goal.returns-in-Some
 returns-in-Some c = line_ends c.args.bytes.now c.in-Some.end c.in-Some.ensures

@@ -1,12 +1,11 @@
 //! Cuts a script that comes in pieces into its lines, and answers each.
 
-ghost use Rattle.std.specs.Prelude.{◌≡◌, ℕ, ◌≤◌, ◌<◌, ◌+◌, ◌^◌, ◌++◌, ◌∷◌, [], length, take, false, OnOk, OnErr, IsErrOf, MatchOption};
+ghost use Rattle.std.specs.Prelude.{◌≡◌, ℕ, ◌≤◌, ◌<◌, ◌+◌, ◌^◌, ◌++◌, ◌∷◌, [], length, take, false, OnOk, OnErr, MatchOption};
 ghost use Rattle.std.specs.List.{list_any};
 ghost use Rattle.fsrm_model.specs.values.Limits.{longest_line};
 ghost use Rattle.fsrm_model.specs.lines.Script.{is_end};
 ghost use Rattle.fsrm_program.specs.Bytes.{CutsLine};
-ghost use Rattle.fsrm_outside.specs.Causes.{Rose};
-ghost use Rattle.reply_text.specs.Writes.{KeepsCount};
+ghost use Rattle.reply_text.specs.Writes.{WritesTo};
 ghost use Rattle.fsrm_program.specs.Progress.{Fed, Feeds, FeedsBroken};
 ghost use Rattle.fsrm_program.specs.Held.{state_of};
 ghost use Rattle.fsrm_program.specs.Stops.{Finishes, FinishesFront};
@@ -89,10 +88,7 @@ fn answer_line<S: Sink, L: Ledger>(
     ensures err { OnErr result (FeedsBroken (state_of session.old steps.old) steps.new (rest.now ++ 10 ∷ []) (S.shown sink.old) (S.shown sink.new)) }
     ensures number { OnOk result (session.new.line ≡ session.old.line + 1) }
     ensures idle { OnOk result (session.new.engine.waiting ≡ []) }
-    ensures fault { IsErrOf result TextFault.WriteFault → Rose (S.write_faults sink.old) (S.write_faults sink.new) }
-    ensures later { S.write_faults sink.old ≤ S.write_faults sink.new }
-    ensures same { KeepsCount result (S.write_faults sink.old) (S.write_faults sink.new) }
-    ensures by { S.by_write sink.old sink.new }
+    ensures device { WritesTo S.Sink result sink.old sink.new }
 {
     hold_end(&mut session.held, rest)?;
     let line = line_of(&session.held, rest);
@@ -133,10 +129,7 @@ pub fn feed<S: Sink, L: Ledger>(
     ensures err { OnErr result (FeedsBroken (state_of session.old steps.old) steps.new piece.now (S.shown sink.old) (S.shown sink.new)) }
     ensures number { OnOk result (session.new.line ≤ session.old.line + length piece.now) }
     ensures idle { OnOk result (session.new.engine.waiting ≡ []) }
-    ensures fault { IsErrOf result TextFault.WriteFault → Rose (S.write_faults sink.old) (S.write_faults sink.new) }
-    ensures later { S.write_faults sink.old ≤ S.write_faults sink.new }
-    ensures same { KeepsCount result (S.write_faults sink.old) (S.write_faults sink.new) }
-    ensures by { S.by_write sink.old sink.new }
+    ensures device { WritesTo S.Sink result sink.old sink.new }
 {
     let mut rest = piece;
     'lines: while let Some((line, after)) = next_line(rest) {
@@ -156,10 +149,7 @@ pub fn end<S: Sink, L: Ledger>(
     requires { session.old.engine.waiting ≡ [] }
     ensures ok { OnOk result (Finishes (state_of session.old steps.old) steps.new (S.shown sink.old) (S.shown sink.new)) }
     ensures err { OnErr result (FinishesFront (state_of session.old steps.old) steps.new (S.shown sink.old) (S.shown sink.new)) }
-    ensures fault { IsErrOf result TextFault.WriteFault → Rose (S.write_faults sink.old) (S.write_faults sink.new) }
-    ensures later { S.write_faults sink.old ≤ S.write_faults sink.new }
-    ensures same { KeepsCount result (S.write_faults sink.old) (S.write_faults sink.new) }
-    ensures by { S.by_write sink.old sink.new }
+    ensures device { WritesTo S.Sink result sink.old sink.new }
 {
     if session.held.is_empty() {
         return Ok(());

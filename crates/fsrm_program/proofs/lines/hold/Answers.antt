@@ -1,6 +1,6 @@
 use Rattle.std.proofs.Common.{◌∙◌, ◌-◌, ap}
 use Rattle.fsrm_program.proofs.Cutting.{hold_more}
-use Rattle.fsrm_program.proofs.session.hold.Goals as goal
+use Rattle.fsrm_program.proofs.lines.hold.Goals as goal
 
 pub returns : goal.returns
 returns c = record {

@@ -1,7 +1,7 @@
 use Rattle.std.proofs.Common.{◌≡◌, []}
 use Rattle.fsrm_program.proofs.Cutting.{none_held, some_held}
 use Rattle.fsrm_program.proofs.Outcomes.{on_ok}
-use Rattle.fsrm_program.proofs.session.hold_end.Goals as goal
+use Rattle.fsrm_program.proofs.lines.hold_end.Goals as goal
 
 pub returns-then-is_empty-clause-some : goal.returns-then-is_empty-clause-some
 returns-then-is_empty-clause-some c = λ some short.
