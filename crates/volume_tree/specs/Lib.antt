@@ -1,4 +1,5 @@
 pub mod Entries
+pub mod Hints
 pub mod Kept
 pub mod Looks
 pub mod Sound

@@ -5,7 +5,9 @@
 //! a path reads the same few parts of it.
 //!
 //! All memory is taken by `reserve`, and only as much of it is used as there are nodes. A table that grows is doubled
-//! in place, from what it has: no node is read for it.
+//! in place, from what it has: no node is read for it, and a clause says that its room stays.
+
+ghost use Rattle.volume_tree.specs.Hints.{KeepsRoom};
 
 use fsrm_model::NoMemory;
 use fsrm_model::limits::MOST_NODES;
@@ -221,32 +223,38 @@ impl Hints {
 
     // Doubles the table of folders if they are more than three fourths of its buckets, and it has room. Each bucket is
     // parted in two by the next bit of the hash.
-    fn fit_folders(&mut self) {
+    fn fit_folders(&mut self)
+        ensures room { KeepsRoom self.old self.new }
+    {
         let count = self.folders.len();
         if 4 * self.entered as usize / 3 <= count || count > self.folders.capacity() / 2 {
             return;
         }
         let bit = count << LEAD;
         for index in 0..count {
-            if let Some(bucket) = self.folders.get_mut(index) {
-                let parted = part(bucket, bit);
-                let _ = self.folders.push(parted);
-            }
+            let parted = part(&mut self.folders[index], bit);
+            self.folders.push_reserved(parted);
         }
     }
 
     // Doubles the table of files if it has fewer than four places for each number up to this one, and room. An entry
     // doesn't tell in which half it is sought from then on, so it comes to stand in both, in one of them for nothing; a
     // file that comes there takes its place.
-    fn fit_files(&mut self, number: u32) {
+    fn fit_files(&mut self, number: u32)
+        ensures room { KeepsRoom self.old self.new }
+    {
         let count = self.files.len();
         if 4 * number as usize <= count || count > self.files.capacity() / 2 {
             return;
         }
-        let _ = self.files.extend_from_within(0..count);
+        for index in 0..count {
+            self.files.push_reserved(self.files[index]);
+        }
     }
 
-    fn enter_folder(&mut self, folder: u32, name: &str, number: u32) {
+    fn enter_folder(&mut self, folder: u32, name: &str, number: u32)
+        ensures room { KeepsRoom self.old self.new }
+    {
         self.entered = self.entered.saturating_add(1);
         self.fit_folders();
         let hash = hash(folder, name);
@@ -256,7 +264,9 @@ impl Hints {
         }
     }
 
-    fn enter_file(&mut self, folder: u32, name: &str, number: u32) {
+    fn enter_file(&mut self, folder: u32, name: &str, number: u32)
+        ensures room { KeepsRoom self.old self.new }
+    {
         self.fit_files(number);
         let hash = hash(folder, name);
         let home = home(hash, self.files.len());
@@ -266,7 +276,9 @@ impl Hints {
     }
 
     /// Enters a node that comes to stand in a folder under a name.
-    pub fn enter(&mut self, folder: u32, name: &str, number: u32, is_folder: bool) {
+    pub fn enter(&mut self, folder: u32, name: &str, number: u32, is_folder: bool)
+        ensures room { KeepsRoom self.old self.new }
+    {
         if is_folder {
             self.enter_folder(folder, name, number);
         } else {
@@ -275,7 +287,9 @@ impl Hints {
     }
 
     /// Gives up the entry of a folder that is to leave its place. A file's stays until another comes there.
-    pub fn forget(&mut self, node: &NodeView<'_>) {
+    pub fn forget(&mut self, node: &NodeView<'_>)
+        ensures room { KeepsRoom self.old self.new }
+    {
         if !node.folder {
             return;
         }
@@ -289,7 +303,9 @@ impl Hints {
     }
 
     /// Enters a node where it goes, to a folder and under a name, and gives up its old entry.
-    pub fn follow(&mut self, node: &NodeView<'_>, folder: u32, name: &str) {
+    pub fn follow(&mut self, node: &NodeView<'_>, folder: u32, name: &str)
+        ensures room { KeepsRoom self.old self.new }
+    {
         self.forget(node);
         self.enter(folder, name, node.number, node.folder);
     }
