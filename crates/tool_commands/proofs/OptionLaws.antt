@@ -6,6 +6,7 @@ use Rattle.std.specs.Option.{option_or}
 use Rattle.std.specs.Str.{str_eq_ignore_ascii_case}
 use Rattle.std.proofs.lemmas.List.{length-append}
 use Rattle.std.proofs.lemmas.List.Elements.{filter_map-append}
+use Rattle.fsrm_model.specs.declared.command.Refusal.{Refusal}
 use Rattle.fsrm_model.specs.declared.command.Refusal.TheVariants.{BadLine, OutOfRange}
 use Rattle.fsrm_model.specs.lines.ValueForms.{ValueForm, Value, value_from}
 use Rattle.fsrm_model.specs.lines.Options.{Key, Given, once, repeated, at_most, is_same, are_apart, its, each_of, times_in, key_named, word_key, is_colon, may_repeat, is_full, with_option, options}
@@ -329,3 +330,21 @@ pub words_more : (keys : List Key) (before after : List Word) (word : Word) (giv
     → option_word keys word given ≡ Ok more → options keys after more ≡ whole
 words_more keys before after word given more whole e is h =
     sym (word_more keys word after given more h) ∙ ap (λ (words : List Word). options keys words given) (sym e) ∙ is
+
+-- a word that is refused
+word_fails : (keys : List Key) (words : List Word) (word : Word) (given : List Given) (refusal : Refusal)
+    → option_word keys word given ≡ Err refusal → options keys (word ∷ words) given ≡ Err refusal
+word_fails keys words word given refusal h = at (word_key keys word.text) h
+  where
+    at : (o : Option Key)
+        → (known (BadLine word.column) o >>= λ key. with_option key word.column (after_first is_colon word.text) given) ≡ Err refusal
+        → (known (BadLine word.column) o >>= λ key. with_option key word.column (after_first is_colon word.text) given >>= λ more. options keys words more) ≡ Err refusal
+    at None e = e
+    at (Some key) e = ap (λ (r : Read (List Given)). r >>= λ more. options keys words more) e
+
+pub words_fail : (keys : List Key) (before after : List Word) (word : Word) (given : List Given)
+    (whole : Read (List Given)) (fault : LineFault) → before ≡ word ∷ after → options keys before given ≡ whole
+    → Reads {X = List Given} (Err fault) (option_word keys word given) → Reads {X = List Given} (Err fault) whole
+words_fail keys before after word given whole (Refused refusal) e is h =
+    sym is ∙ ap (λ (words : List Word). options keys words given) e ∙ word_fails keys after word given refusal h
+words_fail keys before after word given whole NoMemory e is h = tt

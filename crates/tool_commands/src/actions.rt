@@ -17,8 +17,7 @@ use fsrm_model::{Action, ActionKind, Added, Refusal, Text};
 use std::alloc::Global;
 
 /// The percentage that a text of a word at this column is: 1 to 250.
-pub fn read_percent(text: &str, column: usize) -> Result<u16, LineFault>
-    requires { column ≤ 65537 }
+pub fn read_percent(text: &str, column: u32) -> Result<u16, LineFault>
     ensures { Reads result (percent_from column text.now) }
 {
     let percent = read_number(text, column, 1, GREATEST_PERCENT as u64)?;
@@ -26,8 +25,7 @@ pub fn read_percent(text: &str, column: usize) -> Result<u16, LineFault>
 }
 
 /// The run limit that a text of a word at this column is, in minutes: 0 to 525,600.
-pub fn read_run_limit(text: &str, column: usize) -> Result<u32, LineFault>
-    requires { column ≤ 65537 }
+pub fn read_run_limit(text: &str, column: u32) -> Result<u32, LineFault>
     ensures read { Reads result (number_from 0 most_minutes column text.now) }
     ensures within { IfOk result (λ minutes. minutes ≤ most_minutes) }
 {
@@ -36,8 +34,7 @@ pub fn read_run_limit(text: &str, column: usize) -> Result<u32, LineFault>
 }
 
 // The minutes of an action: a run limit of its own, or -1.
-fn read_minutes(text: &str, column: usize) -> Result<i32, LineFault>
-    requires { column ≤ 65537 }
+fn read_minutes(text: &str, column: u32) -> Result<i32, LineFault>
     ensures { Reads result (minutes_from column text.now) }
 {
     if text == "-1" {
@@ -114,8 +111,7 @@ fn action_parts(text: &str) -> Option<ActionParts<'_>>
 }
 
 // The action of these parts, in a word at this column.
-fn read_action(alloc: Global, parts: &ActionParts<'_>, column: usize) -> Result<Action, LineFault>
-    requires { column ≤ 65537 }
+fn read_action(alloc: Global, parts: &ActionParts<'_>, column: u32) -> Result<Action, LineFault>
     ensures { Reads result (action_of column parts.now.kind.now parts.now.minutes.now parts.now.text.now) }
 {
     let kind = kind_named(parts.kind).ok_or(LineFault::bad_line(column))?;
@@ -134,9 +130,8 @@ fn read_added(
     alloc: Global,
     percent: &str,
     action: &ActionParts<'_>,
-    column: usize,
+    column: u32,
 ) -> Result<Added, LineFault>
-    requires { column ≤ 65537 }
     ensures { Reads result (added_from column percent.now action.now.kind.now action.now.minutes.now action.now.text.now) }
 {
     let percent = read_percent(percent, column)?;
@@ -146,8 +141,7 @@ fn read_added(
 
 /// The notification that a text of a word at this column is: a percentage, the letter of a kind, minutes and a text,
 /// with commas between them. All three commas are looked for before any part is judged.
-pub fn read_notice(alloc: Global, text: &str, column: usize) -> Result<Added, LineFault>
-    requires { column ≤ 65537 }
+pub fn read_notice(alloc: Global, text: &str, column: u32) -> Result<Added, LineFault>
     ensures { Reads result (notice_from column text.now) }
 {
     let Some((percent, action)) = parted(text) else {
@@ -161,8 +155,7 @@ pub fn read_notice(alloc: Global, text: &str, column: usize) -> Result<Added, Li
 
 /// The action of a screen that a text of a word at this column is: the letter of a kind, minutes and a text, with
 /// commas between them. Both commas are looked for before any part is judged.
-pub fn read_screen_action(alloc: Global, text: &str, column: usize) -> Result<Action, LineFault>
-    requires { column ≤ 65537 }
+pub fn read_screen_action(alloc: Global, text: &str, column: u32) -> Result<Action, LineFault>
     ensures { Reads result (action_from column text.now) }
 {
     let Some(parts) = action_parts(text) else {

@@ -24,7 +24,7 @@ impl Form for AbsolutePath {
 
     ghost of = { path_of };
 
-    fn read(self, alloc: Global, _column: usize, text: &str) -> Result<Path, LineFault> {
+    fn read(self, alloc: Global, _column: u32, text: &str) -> Result<Path, LineFault> {
         read_path_word(alloc, text)
     }
 }
@@ -40,7 +40,7 @@ impl Form for Limit {
 
     ghost of = { number_of };
 
-    fn read(self, _alloc: Global, column: usize, text: &str) -> Result<u64, LineFault> {
+    fn read(self, _alloc: Global, column: u32, text: &str) -> Result<u64, LineFault> {
         read_limit(text, column)
     }
 }
@@ -56,7 +56,7 @@ impl Form for Percent {
 
     ghost of = { number_of };
 
-    fn read(self, _alloc: Global, column: usize, text: &str) -> Result<u16, LineFault> {
+    fn read(self, _alloc: Global, column: u32, text: &str) -> Result<u16, LineFault> {
         read_percent(text, column)
     }
 }
@@ -72,7 +72,7 @@ impl Form for RunLimit {
 
     ghost of = { number_of };
 
-    fn read(self, _alloc: Global, column: usize, text: &str) -> Result<u32, LineFault> {
+    fn read(self, _alloc: Global, column: u32, text: &str) -> Result<u32, LineFault> {
         read_run_limit(text, column)
     }
 }
@@ -91,7 +91,7 @@ impl Form for Choice {
 
     ghost of = { choice_of };
 
-    fn read(self, _alloc: Global, column: usize, text: &str) -> Result<bool, LineFault> {
+    fn read(self, _alloc: Global, column: u32, text: &str) -> Result<bool, LineFault> {
         read_choice(self.first, self.second, text, column)
     }
 }
@@ -107,7 +107,7 @@ impl Form for UpdateMode {
 
     ghost of = { update_of };
 
-    fn read(self, _alloc: Global, column: usize, text: &str) -> Result<Update, LineFault> {
+    fn read(self, _alloc: Global, column: u32, text: &str) -> Result<Update, LineFault> {
         read_update(text, column)
     }
 }
@@ -123,7 +123,7 @@ impl Form for ObjectName {
 
     ghost of = { text_of };
 
-    fn read(self, alloc: Global, _column: usize, text: &str) -> Result<Text, LineFault> {
+    fn read(self, alloc: Global, _column: u32, text: &str) -> Result<Text, LineFault> {
         read_object_name(alloc, text)
     }
 }
@@ -139,7 +139,7 @@ impl Form for FolderName {
 
     ghost of = { text_of };
 
-    fn read(self, alloc: Global, _column: usize, text: &str) -> Result<Text, LineFault> {
+    fn read(self, alloc: Global, _column: u32, text: &str) -> Result<Text, LineFault> {
         read_name(alloc, text)
     }
 }
@@ -155,7 +155,7 @@ impl Form for Members {
 
     ghost of = { texts_of };
 
-    fn read(self, alloc: Global, _column: usize, text: &str) -> Result<List<Text>, LineFault> {
+    fn read(self, alloc: Global, _column: u32, text: &str) -> Result<List<Text>, LineFault> {
         read_patterns(alloc, text)
     }
 }
@@ -171,7 +171,7 @@ impl Form for NonMembers {
 
     ghost of = { texts_of };
 
-    fn read(self, alloc: Global, _column: usize, text: &str) -> Result<List<Text>, LineFault> {
+    fn read(self, alloc: Global, _column: u32, text: &str) -> Result<List<Text>, LineFault> {
         read_non_members(alloc, text)
     }
 }
@@ -187,7 +187,7 @@ impl Form for Notice {
 
     ghost of = { notice_of };
 
-    fn read(self, alloc: Global, column: usize, text: &str) -> Result<Added, LineFault> {
+    fn read(self, alloc: Global, column: u32, text: &str) -> Result<Added, LineFault> {
         read_notice(alloc, text, column)
     }
 }
@@ -203,7 +203,7 @@ impl Form for ScreenAction {
 
     ghost of = { action_of };
 
-    fn read(self, alloc: Global, column: usize, text: &str) -> Result<Action, LineFault> {
+    fn read(self, alloc: Global, column: u32, text: &str) -> Result<Action, LineFault> {
         read_screen_action(alloc, text, column)
     }
 }

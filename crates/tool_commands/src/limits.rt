@@ -79,8 +79,7 @@ fn limit_of(digits: &str, unit: u64) -> Result<u64, LineFault>
 
 /// The limit that a text of a word at this column is, in bytes: digits, as many as are given, and a
 /// unit. BadLine if it hasn't that form, InvalidLimit below 1,024 bytes or above 2^60.
-pub fn read_limit(text: &str, column: usize) -> Result<u64, LineFault>
-    requires { column ≤ 65537 }
+pub fn read_limit(text: &str, column: u32) -> Result<u64, LineFault>
     ensures { Reads result (limit_from column text.now) }
 {
     let count = digit_count(text.as_bytes());

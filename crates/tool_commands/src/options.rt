@@ -1,6 +1,6 @@
 //! The options of the tools' commands: words of the form /Name:value, in any order.
 
-ghost use Rattle.std.specs.Prelude.{◌≡◌, ◌≤◌, ◌∷◌, ◌++◌, true, false, List as Sequence, [], Option as Maybe};
+ghost use Rattle.std.specs.Prelude.{◌≡◌, ◌∷◌, ◌++◌, true, false, List as Sequence, [], Option as Maybe};
 ghost use Rattle.fsrm_model.specs.lines.ValueForms.{ValueForm, Value, value_from};
 ghost use Rattle.fsrm_model.specs.lines.Options.{Key, Given, once, repeated, at_most, are_apart, options as options_of};
 ghost use Rattle.tool_commands.specs.OptionWords.{option_word, ReadsValue, HoldsOnce, HoldsEach, Adds, AddsWord, ReadsGiven, IsRequired, in_keys};
@@ -22,8 +22,7 @@ pub trait Form: Copy {
     ghost of: { Value → Maybe Self.Value };
 
     /// Reads a value from its text. The word that has it begins at this column.
-    fn read(self, alloc: Global, column: usize, text: &str) -> Result<Self::Value, LineFault>
-        requires { column ≤ 65537 }
+    fn read(self, alloc: Global, column: u32, text: &str) -> Result<Self::Value, LineFault>
         ensures { ReadsValue of result (value_from (form self) column text.now) };
 }
 
@@ -54,8 +53,7 @@ pub struct AtMost<F> {
 pub struct OptionWord<'a> {
     name: &'a str,
     value: &'a str,
-    column: usize,
-    ghost within: { column ≤ 65537 },
+    column: u32,
 }
 
 /// Options that a command takes: one, or a pair of options or of pairs. A pair asks its first half first.

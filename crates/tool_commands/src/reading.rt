@@ -6,6 +6,7 @@ ghost use Rattle.fsrm_model.specs.declared.command.Command.{Command};
 ghost use Rattle.fsrm_model.specs.declared.command.Refusal.TheVariants.{BadLine};
 ghost use Rattle.fsrm_model.specs.lines.Line.{read_line, read_words, is_skipped};
 ghost use Rattle.fsrm_model.specs.store.Valued.{is_command};
+ghost use Rattle.fsrm_model.specs.values.Limits.{longest_line};
 ghost use Rattle.fsrm_model.specs.lines.Words.{is_quote, is_closed, last_quote};
 ghost use Rattle.tool_commands.specs.LineFaults.{IsFault, ReadsWords};
 ghost use Rattle.tool_commands.specs.declared.reading.LineFault.TheVariants.{Refused, NoMemory as Memory};
@@ -30,11 +31,9 @@ pub enum LineFault {
 
 impl LineFault {
     /// A word that hasn't its form, or is missing. The column counts bytes from 1.
-    pub(crate) fn bad_line(column: usize) -> LineFault
-        requires { column ≤ 65537 }
+    pub(crate) fn bad_line(column: u32) -> LineFault
         ensures { result ≡ Refused (BadLine column) }
     {
-        let column = column as u32;
         LineFault::Refused(Refusal::BadLine { column })
     }
 }
@@ -97,11 +96,11 @@ fn unclosed_quote(line: &str) -> Option<usize>
 // that is skipped needs no room for a command.
 #[inline(never)]
 fn read_words(alloc: Global, line: &str) -> Result<Option<Command>, LineFault>
-    requires { length line.now ≤ 65536 }
+    requires { length line.now ≤ longest_line }
     ensures { ReadsWords result (read_words line.now) }
 {
     if let Some(column) = unclosed_quote(line) {
-        return Err(LineFault::bad_line(column));
+        return Err(LineFault::bad_line(column as u32));
     }
     let mut words = Words::new(line);
     let moment = words.moment(alloc)?;
@@ -133,7 +132,7 @@ pub fn read_line(alloc: Global, line: &[u8]) -> Result<Option<Command>, LineFaul
     }
     let text = match str::from_utf8(line) {
         Ok(text) => text,
-        Err(error) => return Err(LineFault::bad_line(error.valid_up_to() + 1)),
+        Err(error) => return Err(LineFault::bad_line(error.valid_up_to() as u32 + 1)),
     };
     if is_skipped(line) {
         return Ok(None);

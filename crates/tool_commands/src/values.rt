@@ -106,8 +106,7 @@ fn in_range(low: u64, high: u64, number: u64) -> Result<u64, LineFault>
 }
 
 /// Reads the text of a word at this column as a number from low to high.
-pub fn read_number(text: &str, column: usize, low: u64, high: u64) -> Result<u64, LineFault>
-    requires column { column ≤ 65537 }
+pub fn read_number(text: &str, column: u32, low: u64, high: u64) -> Result<u64, LineFault>
     requires high { high < greatest_number }
     ensures read { Reads result (number_from low high column text.now) }
     ensures within { IfOk result (λ n. n ≤ high) }
@@ -177,8 +176,7 @@ pub fn is_named(name: &str, word: &str) -> bool
 }
 
 /// Whether a text of a word at this column is the first of two words, or the second.
-pub fn read_choice(first: &str, second: &str, text: &str, column: usize) -> Result<bool, LineFault>
-    requires { column ≤ 65537 }
+pub fn read_choice(first: &str, second: &str, text: &str, column: u32) -> Result<bool, LineFault>
     ensures { Reads result (choice_from first.now second.now column text.now) }
 {
     if is_named(first, text) {
@@ -191,8 +189,7 @@ pub fn read_choice(first: &str, second: &str, text: &str, column: usize) -> Resu
 }
 
 /// Which derived quotas a text of a word at this column names: none, matching or all.
-pub fn read_update(text: &str, column: usize) -> Result<Update, LineFault>
-    requires { column ≤ 65537 }
+pub fn read_update(text: &str, column: u32) -> Result<Update, LineFault>
     ensures { Reads result (update_from column text.now) }
 {
     if is_named("none", text) {

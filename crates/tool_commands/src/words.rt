@@ -4,6 +4,7 @@ ghost use Rattle.std.specs.Prelude.{◌≡◌, ◌+◌, ◌≤◌, ◌==◌, ◌
 ghost use Rattle.std.specs.List.{prefix_len};
 ghost use Rattle.std.specs.Str.{IsCharBoundary};
 ghost use Rattle.std.specs.String.{string_bytes};
+ghost use Rattle.fsrm_model.specs.values.Limits.{longest_line};
 ghost use Rattle.fsrm_model.specs.lines.Words.{is_blank, parts_from, words_at, without_quotes};
 ghost use Rattle.tool_commands.specs.Lengths.{is_plain, IsPlainWord, word_length, quoted_length};
 
@@ -106,9 +107,8 @@ fn copy_without_quotes(alloc: Global, raw: &str) -> Result<String, NoMemory>
 #[derive(Drop)]
 pub struct Word<'a> {
     /// Where the word's first byte stands in its line, which may be a quote. It counts bytes from 1.
-    pub column: usize,
+    pub column: u32,
     pub text: CowStr<'a, Global>,
-    ghost within: { column ≤ 65537 },
 }
 
 impl Word<'_> {
@@ -128,9 +128,8 @@ impl Word<'_> {
 /// A word, with a text that is lent.
 #[derive(Clone, Copy)]
 pub struct LentWord<'a> {
-    pub column: usize,
+    pub column: u32,
     pub text: &'a str,
-    ghost within: { column ≤ 65537 },
 }
 
 /// The words of a line that are still to come.
@@ -138,8 +137,8 @@ pub struct LentWord<'a> {
 pub struct Words<'a> {
     rest: &'a str,
     // Where the rest begins in the line. It counts bytes from 1.
-    column: usize,
-    ghost within: { column + length rest.now ≤ 65537 },
+    column: u32,
+    ghost within: { column + length rest.now ≤ longest_line + 1 },
 }
 
 impl<'a> Words<'a> {
@@ -149,7 +148,7 @@ impl<'a> Words<'a> {
 
     /// All words of a line.
     pub fn new(line: &'a str) -> Words<'a>
-        requires { length line.now ≤ 65536 }
+        requires { length line.now ≤ longest_line }
         ensures left { left result ≡ words_at 1 (parts_from false line.now) }
         ensures end { end result ≡ length line.now + 1 }
     {
@@ -167,7 +166,7 @@ impl<'a> Words<'a> {
         ensures end { end self.new ≡ end self.old }
     {
         self.rest = after(self.rest, count);
-        self.column += count;
+        self.column += count as u32;
     }
 
     /// Passes the blanks before the next word.
@@ -188,31 +187,28 @@ impl<'a> Words<'a> {
     }
 
     /// Where what is left begins in the line. It counts bytes from 1.
-    pub fn column(&self) -> usize
-        ensures column { result ≡ self.now.column }
-        ensures within { result ≤ 65537 }
+    pub fn column(&self) -> u32
+        ensures { result ≡ self.now.column }
     {
         self.column
     }
 
     /// The column of the next word, if one is left.
-    pub fn next_column(&self) -> Option<usize>
-        ensures column { result ≡ first_column (left self.now) }
-        ensures within { IfSome result (λ column. column ≤ 65537) }
+    pub fn next_column(&self) -> Option<u32>
+        ensures { result ≡ first_column (left self.now) }
     {
         let blanks = blanks(self.rest.as_bytes());
         if blanks == self.rest.len() {
             return None;
         }
-        Some(self.column + blanks)
+        Some(self.column + blanks as u32)
     }
 
     /// The column after the line's end.
-    pub fn end(&self) -> usize
-        ensures end { result ≡ end self.now }
-        ensures within { result ≤ 65537 }
+    pub fn end(&self) -> u32
+        ensures { result ≡ end self.now }
     {
-        self.column + self.rest.len()
+        self.column + self.rest.len() as u32
     }
 
     /// Takes the word of so many plain bytes that what is left begins with.

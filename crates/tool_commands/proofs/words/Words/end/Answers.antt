@@ -2,6 +2,6 @@ use Rattle.std.proofs.Common.{refl}
 use Rattle.tool_commands.specs.Taking.{end}
 use Rattle.tool_commands.proofs.words.Words.end.Goals as goal
 
-pub returns-clause-end : goal.returns-clause-end
+pub returns : goal.returns
 unfolding end
-returns-clause-end c = refl
+returns c = refl

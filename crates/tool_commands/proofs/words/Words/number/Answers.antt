@@ -23,7 +23,7 @@ pub returns-then-is_spoilt-clause-read : goal.returns-then-is_spoilt-clause-read
 returns-then-is_spoilt-clause-read c =
     let digits = c.leading_digits-digits.result in
     let bytes_is = c.as_bytes-text.ensures.value ∙ c.rest.ensures in
-    rw (c.bad_line.ensures, c.column.ensures.column)
+    rw (c.bad_line.ensures, c.column.ensures)
     (spoilt_number c.args.low c.args.high c.args.self.now c.skip_blanks.new.self c.as_bytes-text.result.now digits.count digits.number c.skip_blanks.ensures.left c.skip_blanks.ensures.end
     bytes_is c.leading_digits-digits.ensures (sym c.is_spoilt.ensures ∙ c.if-is_spoilt.true))
 
