@@ -1,6 +1,6 @@
 //! Steps of the active scan.
 
-ghost use Rattle.std.specs.Prelude.{◌≡◌, ◌+◌, ◌-◌, ◌*◌, ◌≤◌, ◌==◌, true, length, is_some, sum_by, unwrap_or};
+ghost use Rattle.std.specs.Prelude.{◌≡◌, ◌+◌, ◌-◌, ◌≤◌, ◌==◌, true, length, is_some, sum_by, unwrap_or};
 ghost use Rattle.fsrm_model.specs.commands.Cost.{visit_cost};
 ghost use Rattle.fsrm_base.specs.Numbers.{without_number, without_numbers};
 ghost use Rattle.fsrm_model.specs.objects.QuotaStates.{head as first};

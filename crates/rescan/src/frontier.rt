@@ -1,6 +1,6 @@
 //! The frontier of a scan.
 
-ghost use Rattle.std.specs.Prelude.{◌≡◌, ◌<◌, ◌≤◌, ◌==◌, IfOk, None, Some, true, length, [], ◌∷◌};
+ghost use Rattle.std.specs.Prelude.{◌≡◌, ◌<◌, ◌==◌, IfOk, None, Some, true, length, [], ◌∷◌};
 ghost use Rattle.fsrm_model.specs.store.Capacities.{is_cluster};
 ghost use Rattle.fsrm_model.specs.objects.Scan.{folders_under};
 ghost use Rattle.fsrm_model.specs.nodes.Tree.{is_folder, usage};

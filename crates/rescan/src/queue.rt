@@ -2,7 +2,7 @@
 
 ghost use Rattle.std.specs.Prelude.{◌≡◌, ◌<◌, ◌++◌, ◌==◌, ℕ, IfOk, Some, None, true, false, is_some, length, [], ◌∷◌};
 ghost use Rattle.fsrm_model.specs.store.Capacities.{is_cluster};
-ghost use Rattle.fsrm_base.specs.Numbers.{is_in, each_once, without_number};
+ghost use Rattle.fsrm_base.specs.Numbers.{is_in, without_number};
 ghost use Rattle.fsrm_model.specs.values.Limits.{most_quotas};
 ghost use Rattle.fsrm_model.specs.objects.QuotaStates.{head as first};
 ghost use Rattle.fsrm_model.specs.nodes.Tree.{is_folder};

@@ -1,6 +1,5 @@
 //! The commands on the settings of the service and on the log of actions, each read from the options after its name.
 
-ghost use Rattle.std.specs.Prelude.{◌≡◌};
 ghost use Rattle.fsrm_model.specs.lines.Line.{option_words, named_word};
 ghost use Rattle.fsrm_model.specs.lines.Tools.{admin_commands, admin_options};
 ghost use Rattle.tool_commands.specs.LineFaults.{Reads};

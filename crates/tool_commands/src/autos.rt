@@ -1,6 +1,5 @@
 //! The commands on auto-apply quotas, each read from the options after its name.
 
-ghost use Rattle.std.specs.Prelude.{◌≡◌};
 ghost use Rattle.fsrm_model.specs.declared.command.Deed.TheVariants.{Autoquota};
 ghost use Rattle.fsrm_model.specs.lines.Line.{option_words, named_word};
 ghost use Rattle.fsrm_model.specs.lines.Tools.{auto_add, auto_commands};

@@ -1,6 +1,5 @@
 //! The forms of the values that options have, each with the reader of its values.
 
-ghost use Rattle.std.specs.Prelude.{◌≡◌};
 ghost use Rattle.fsrm_model.specs.lines.ValueForms.{PathForm, LimitForm, NumberForm, ChoiceForm, UpdateForm, ObjectForm, NameForm, MembersForm, NonMembersForm, NoticeForm, ActionForm, path_of, number_of, choice_of, update_of, text_of, texts_of, notice_of, action_of};
 ghost use Rattle.fsrm_model.specs.values.Limits.{greatest_percent, most_minutes};
 

@@ -1,6 +1,5 @@
 //! The commands on file groups, each read from the options after its name.
 
-ghost use Rattle.std.specs.Prelude.{◌≡◌};
 ghost use Rattle.fsrm_model.specs.declared.command.Deed.TheVariants.{Filegroup};
 ghost use Rattle.fsrm_model.specs.lines.Line.{option_words, named_word};
 ghost use Rattle.fsrm_model.specs.lines.Tools.{group_add, group_commands, group_delete, group_modify};

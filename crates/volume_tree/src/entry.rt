@@ -1,13 +1,13 @@
 //! The entry of a node in the order.
 
-ghost use Rattle.std.specs.Prelude.{◌≡◌, ◌+◌, ◌<◌, ◌≤◌, ◌==◌, not, IfOk, IfErr, OnOk, OnErr, true, false, length, Some, slice_get, option_map};
+ghost use Rattle.std.specs.Prelude.{◌≡◌, ◌+◌, ◌<◌, ◌≤◌, not, IfOk, IfErr, OnOk, OnErr, true, false, length, Some, slice_get};
 ghost use Rattle.fsrm_base.specs.Keyed.{has_row};
 ghost use Rattle.fsrm_model.specs.values.Limits.{most_nodes};
 ghost use Rattle.fsrm_model.specs.nodes.Tree.{number as key, parent_of, name_of, child_number};
 ghost use Rattle.block_list.specs.Places.{IsEntry, IsGap, index_of};
 ghost use Rattle.block_list.specs.Runs.{entries_of};
 ghost use Rattle.volume_tree.specs.Entries.{AreOwn};
-ghost use Rattle.volume_tree.specs.Kept.{AreSlots, IsOrder, IsPlace, rows_of};
+ghost use Rattle.volume_tree.specs.Kept.{AreSlots, IsOrder, rows_of};
 ghost use Rattle.volume_tree.specs.Shift.{IsShifted};
 ghost use Rattle.volume_tree.specs.Volume.{is_other};
 

@@ -1,6 +1,6 @@
 //! Where in a run the entries of lower folders end, sought from a place on: the nearer it is the fewer the steps.
 
-ghost use Rattle.std.specs.Prelude.{◌≡◌, ◌+◌, ◌-◌, ◌<◌, ◌≤◌, length};
+ghost use Rattle.std.specs.Prelude.{◌+◌, ◌-◌, ◌<◌, ◌≤◌, length};
 ghost use Rattle.volume_tree.specs.Entries.{parent_at};
 
 use crate::entries::Entry;

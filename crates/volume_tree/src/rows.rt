@@ -1,6 +1,6 @@
 //! A tree's nodes as rows, and the parts of a tree from rows.
 
-ghost use Rattle.std.specs.Prelude.{◌≡◌, ◌+◌, ◌≤◌, ◌&&◌, ◌++◌, [], ◌∷◌, IfOk, OnOk, IsErrOf, MatchOption, true, false, length, nat_le, map, ◌<◌, ℕ, MatchBool, slice_index_or, slice_set};
+ghost use Rattle.std.specs.Prelude.{◌≡◌, ◌+◌, ◌≤◌, ◌&&◌, IfOk, OnOk, IsErrOf, MatchOption, true, false, length, nat_le, map, ◌<◌, ℕ, MatchBool, slice_index_or, slice_set};
 ghost use Rattle.std.specs.List.{IsAllAdjacentAnswer, list_all};
 ghost use Rattle.std.specs.List.Sorted.{IsPermutation, IsSortedBy};
 ghost use Rattle.std.specs.Ordering.{is_lt};

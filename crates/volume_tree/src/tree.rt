@@ -1,18 +1,16 @@
 //! A volume's nodes.
 
-ghost use Rattle.std.specs.Prelude.{◌≡◌, ◌+◌, ◌*◌, ◌<◌, ◌≤◌, ◌==◌, if◌then◌else◌, IfOk, IfErr, OnOk, OnErr, OnSome, IsErrOf, true, false, length, take, drop, map, None, Some, ◌∷◌, []};
+ghost use Rattle.std.specs.Prelude.{◌≡◌, ◌+◌, ◌*◌, ◌<◌, ◌≤◌, ◌==◌, IfOk, IfErr, OnOk, OnErr, OnSome, IsErrOf, true, false, length, take, drop, map, None, Some, ◌∷◌, []};
 ghost use Rattle.fsrm_model.specs.store.Capacities.{is_capacity};
-ghost use Rattle.fsrm_model.specs.nodes.FileOps.{made_node};
 ghost use Rattle.fsrm_model.specs.nodes.Fresh.{root_node};
 ghost use Rattle.fsrm_base.specs.Keyed.{has_row};
 ghost use Rattle.fsrm_model.specs.values.Limits.{longest_file, latest_moment};
-ghost use Rattle.fsrm_model.specs.values.Name.{is_name};
 ghost use Rattle.fsrm_model.specs.meaning.PathNames.{left};
 ghost use Rattle.fsrm_model.specs.values.Space.{alloc};
-ghost use Rattle.fsrm_model.specs.nodes.Tree.{number as key, fresh, is_folder, is_under, children, children_in_order, child_number, chain, resolve, name_bytes};
+ghost use Rattle.fsrm_model.specs.nodes.Tree.{number as key, is_folder, is_under, children, children_in_order, child_number, chain, resolve, name_bytes};
 ghost use Rattle.fsrm_model.specs.store.Valid.{is_tree, IsVolume};
 ghost use Rattle.volume_tree.specs.Looks.{passed};
-ghost use Rattle.volume_tree.specs.Volume.{IsChildAt, Shows, new_fault, remove_fault, with_node, with_length, with_touch, without_node};
+ghost use Rattle.volume_tree.specs.Volume.{IsChildAt, Shows, remove_fault, with_length, with_touch, without_node};
 
 use crate::answer::{RowsFault, TreeFault};
 use crate::children::Children;
