@@ -1,5 +1,5 @@
 -- The acts that commands make due, as the engine finds them, and what is left when they ran.
-use Rattle.std.specs.Prelude.{◌≡◌, ℕ, ◌==◌, ◌&&◌, not, Bool, true, false, List, [], ◌∷◌, map, Some, None}
+use Rattle.std.specs.Prelude.{◌≡◌, ℕ, ◌≤◌, ◌==◌, ◌&&◌, not, Bool, true, false, List, [], ◌∷◌, map, Some, None}
 use Rattle.std.specs.Option.{option_map_or}
 use Rattle.fsrm_base.specs.Keyed.{with_change}
 use Rattle.fsrm_model.specs.declared.command.Act.{Act}
@@ -8,6 +8,7 @@ use Rattle.fsrm_model.specs.declared.command.Outcome.TheVariants.{Refused}
 use Rattle.fsrm_model.specs.declared.row.NodeRow.{NodeRow}
 use Rattle.fsrm_model.specs.declared.row.QuotaRow.{QuotaRow}
 use Rattle.fsrm_model.specs.declared.row.QuotaState.TheVariants.{Complete}
+use Rattle.fsrm_model.specs.values.Limits.{latest_moment}
 use Rattle.fsrm_model.specs.objects.Quota.{folder_of, peaked}
 use Rattle.fsrm_model.specs.objects.QuotaStates.{in_state, queued}
 use Rattle.fsrm_model.specs.nodes.Tree.{is_under}
@@ -21,7 +22,7 @@ use Rattle.thresholds.specs.Settled.{due_in}
 use Rattle.fsrm_engine.specs.declared.parts.Parts.{Parts}
 use Rattle.fsrm_engine.specs.Crossing.{counted_acts}
 use Rattle.fsrm_engine.specs.Faults.{exceeded_refusal, refused_answer}
-use Rattle.fsrm_engine.specs.Machine.{charged_parts, ended, recounted, AreCounted, Ran}
+use Rattle.fsrm_engine.specs.Machine.{charged_parts, ended, recounted, AreCounted, IsIdle, IsSound, Ran}
 use Rattle.fsrm_engine.specs.Peaks.{raised}
 
 -- whether a folder lost what a change gave it: it is at or above another folder from which bytes were taken
@@ -57,6 +58,12 @@ pub record Refuses (old new : Parts) (moment : ℕ) (exceeded : Exceeded) (answe
   pub leaves : LeavesActs (refused_acts old exceeded moment) old run new moment exceeded answer
 
 -- ---- scans that finish
+-- a scan may finish at this moment, also before the last one: the parts are sound, no action waits, and the moment is in range
+pub record MayFinish (parts : Parts) (moment : ℕ) : Type 0 where
+  pub sound : IsSound parts
+  pub idle : IsIdle parts
+  pub in_range : moment ≤ latest_moment
+
 -- the quotas once a folder's is complete
 abbrev pub with_complete : ℕ → List QuotaRow → List QuotaRow
 with_complete folder quotas = with_change folder_of folder (in_state Complete) quotas

@@ -9,10 +9,10 @@ ghost use Rattle.fsrm_model.specs.values.Limits.{most_quotas};
 ghost use Rattle.fsrm_model.specs.objects.QuotaStates.{start};
 ghost use Rattle.fsrm_model.specs.objects.Templates.{derived, template_number, template_of};
 ghost use Rattle.fsrm_model.specs.nodes.Tree.{is_folder};
-ghost use Rattle.fsrm_model.specs.store.Valid.{IsVolume};
+ghost use Rattle.fsrm_model.specs.store.Valid.{IsValid, IsVolume};
 ghost use Rattle.fsrm_model.specs.store.ValidScans.{IsQueue};
 ghost use Rattle.fsrm_engine.specs.Applying.{AreComing, derived_rows, quotas_full};
-ghost use Rattle.fsrm_engine.specs.Machine.{IsSound, IsWhole, Turned};
+ghost use Rattle.fsrm_engine.specs.Machine.{IsSound, Turned, rows_of};
 
 use crate::parts::Parts;
 use crate::states::first_state;
@@ -71,7 +71,7 @@ impl Parts {
     /// Refuses so many quotas of a template if there would be more than 4,096 quotas, else if their texts are longer
     /// than `room`.
     pub(crate) fn may_derive(&self, template: u32, count: usize, room: u32) -> Result<(), Refusal>
-        requires whole { IsWhole self.now }
+        requires store { IsValid self.now.tree.size (rows_of self.now) }
         requires there { has_row template_number template self.now.templates.templates ≡ true }
         ensures may { OnOk result (quotas_full self.now template count room ≡ None) }
         ensures refused { IfErr result (λ refusal. quotas_full self.now template count room ≡ Some refusal) }

@@ -4,14 +4,14 @@
 ghost use Rattle.std.specs.Prelude.{◌≡◌, ◌+◌, ◌*◌, ◌≤◌, ◌==◌, true, false, length, is_some, IfErr, IfOk, IfSome, OnErr, OnOk, Some, None};
 ghost use Rattle.fsrm_base.specs.Keyed.{has_row};
 ghost use Rattle.fsrm_model.specs.declared.row.QuotaState.TheVariants.{Complete};
-ghost use Rattle.fsrm_model.specs.values.Limits.{latest_moment};
 ghost use Rattle.fsrm_model.specs.values.Name.{is_name};
 ghost use Rattle.fsrm_model.specs.objects.Quota.{folder_of};
 ghost use Rattle.fsrm_model.specs.objects.QuotaStates.{start};
 ghost use Rattle.fsrm_model.specs.objects.Templates.{template_number};
 ghost use Rattle.fsrm_model.specs.nodes.Tree.{fresh, is_folder};
+ghost use Rattle.fsrm_model.specs.store.Valid.{IsValid};
 ghost use Rattle.volume_tree.specs.Volume.{new_fault};
-ghost use Rattle.fsrm_engine.specs.Machine.{AreCounted, IsSound, IsWhole};
+ghost use Rattle.fsrm_engine.specs.Machine.{AreCounted, IsReady, IsSound, rows_of};
 ghost use Rattle.fsrm_engine.specs.Arrivals.{Receives, from_source, source_fault, with_folder};
 
 use crate::applying::derived_row;
@@ -25,7 +25,7 @@ impl Parts {
     /// Refuses a quota that is to come of a template, if one is named and there is no room: there would be too many
     /// quotas, or too long texts.
     pub(crate) fn may_come(&self, source: Option<u32>) -> Result<(), Refusal>
-        requires whole { IsWhole self.now }
+        requires store { IsValid self.now.tree.size (rows_of self.now) }
         requires there { IfSome source (λ template. has_row template_number template self.now.templates.templates ≡ true) }
         ensures may { OnOk result (source_fault self.now source ≡ None) }
         ensures refused { IfErr result (λ refusal. source_fault self.now source ≡ Some refusal) }
@@ -47,11 +47,10 @@ impl Parts {
         moment: u64,
         steps: &mut Steps<L>,
     ) -> Result<u32, NoMemory>
-        requires whole { IsWhole self.old }
+        requires ready { IsReady self.old moment }
         requires folder { is_folder self.old.tree.nodes place.folder ≡ true }
         requires name { is_name place.name.now ≡ true }
         requires owner { 1 ≤ owner }
-        requires moment { moment ≤ latest_moment }
         requires may { new_fault self.old.tree place.folder place.name.now ≡ None }
         requires there { IfSome source (λ template. has_row template_number template self.old.templates.templates ≡ true) }
         ensures number { IfOk result (λ number. number ≡ fresh self.old.tree.nodes) }
@@ -83,11 +82,10 @@ impl Parts {
         moment: u64,
         steps: &mut Steps<L>,
     ) -> Result<u32, NoMemory>
-        requires whole { IsWhole self.old }
+        requires ready { IsReady self.old moment }
         requires folder { is_folder self.old.tree.nodes place.folder ≡ true }
         requires name { is_name place.name.now ≡ true }
         requires owner { 1 ≤ owner }
-        requires moment { moment ≤ latest_moment }
         requires may { new_fault self.old.tree place.folder place.name.now ≡ None }
         requires there { has_row template_number template self.old.templates.templates ≡ true }
         ensures number { IfOk result (λ number. number ≡ fresh self.old.tree.nodes) }
@@ -123,8 +121,7 @@ impl Parts {
         moment: u64,
         steps: &mut Steps<L>,
     ) -> Result<(), NoMemory>
-        requires whole { IsWhole self.old }
-        requires moment { moment ≤ latest_moment }
+        requires ready { IsReady self.old moment }
         requires there { IfSome source (λ template. has_row template_number template self.old.templates.templates ≡ true) }
         requires kind { is_some source ≡ true → is_folder self.old.tree.nodes node ≡ true }
         requires absent { is_some source ≡ true → has_row folder_of node self.old.objects.quotas ≡ false }

@@ -10,11 +10,12 @@ ghost use Rattle.fsrm_model.specs.commands.Commands.{is_new_autoquota};
 ghost use Rattle.fsrm_model.specs.commands.Cost.{deed_cost};
 ghost use Rattle.fsrm_model.specs.objects.Templates.{template_number};
 ghost use Rattle.fsrm_model.specs.nodes.Tree.{number, children, is_folder};
-ghost use Rattle.fsrm_model.specs.store.Valid.{IsVolume};
+ghost use Rattle.fsrm_model.specs.store.Valid.{IsValid, IsVolume};
+ghost use Rattle.fsrm_model.specs.store.ValidScans.{IsQueue};
 ghost use Rattle.fsrm_model.specs.store.Valued.{is_deed};
 ghost use Rattle.templates.specs.Held.{with_auto};
 ghost use Rattle.fsrm_engine.specs.Applying.{AreComing, IsGiven, apply_refusal, gets_one, given_folders};
-ghost use Rattle.fsrm_engine.specs.Machine.{Does, IsReady, IsSound, IsWhole, Turned, rows_of};
+ghost use Rattle.fsrm_engine.specs.Machine.{Does, IsReady, IsSound, Turned, rows_of};
 ghost use Rattle.fsrm_engine.specs.Memory.{may_want_memory};
 ghost use Rattle.fsrm_engine.specs.Walk.{AreThere};
 
@@ -129,7 +130,7 @@ impl Parts {
     // Refuses an auto-apply quota that gives so many quotas, if there would be too many of either or their texts too
     // long.
     fn may_apply(&self, row: &AutoRow, count: usize) -> Result<(), Refusal>
-        requires whole { IsWhole self.now }
+        requires store { IsValid self.now.tree.size (rows_of self.now) }
         requires there { has_row template_number row.now.template self.now.templates.templates ≡ true }
         ensures may { OnOk result (apply_refusal self.now row.now count ≡ None) }
         ensures refused { IfErr result (λ refusal. apply_refusal self.now row.now count ≡ Some refusal) }
@@ -155,7 +156,7 @@ impl Parts {
         moment: u64,
         steps: &mut Steps<L>,
     ) -> Result<Result<Vec<QuotaRow>, Refusal>, NoMemory>
-        requires whole { IsWhole self.now }
+        requires ready { IsReady self.now moment }
         requires there { has_row template_number row.now.template self.now.templates.templates ≡ true }
         ensures given { IfOk result (λ given. MatchResult given (λ rows. IsGiven self.now row.now moment rows.items) (λ refusal. apply_refusal self.now row.now (length (given_folders self.now.tree.nodes self.now.objects.quotas row.now)) ≡ Some refusal)) }
         ensures looks { steps.new ≤ steps.old + (1 + 3 * length (children self.now.tree.nodes row.now.folder)) }
@@ -179,7 +180,8 @@ impl Parts {
     // Puts an auto-apply quota on a folder that has none, and the quotas that it gives on their folders. An `Err`
     // changes nothing.
     fn apply_auto(&mut self, row: AutoRow, rows: Vec<QuotaRow>) -> Result<(), NoMemory>
-        requires whole { IsWhole self.old }
+        requires sound { IsSound self.old }
+        requires queue { IsQueue self.old.objects.quotas self.old.scans.queue }
         requires absent { has_row auto_folder row.folder self.old.templates.autos ≡ false }
         requires there { has_row template_number row.template self.old.templates.templates ≡ true }
         requires valid { is_auto row ≡ true }

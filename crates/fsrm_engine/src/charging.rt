@@ -4,7 +4,7 @@ ghost use Rattle.std.specs.Prelude.{◌≡◌, ◌+◌, ◌*◌, ◌<◌, ◌≤
 ghost use Rattle.fsrm_base.specs.Numbers.{with_number};
 ghost use Rattle.fsrm_base.specs.Keyed.{has_row, is_ascending, with_change};
 ghost use Rattle.fsrm_base.specs.Places.{IsAt};
-ghost use Rattle.fsrm_model.specs.values.Limits.{latest_moment, most_entries, most_quotas};
+ghost use Rattle.fsrm_model.specs.values.Limits.{most_entries, most_quotas};
 ghost use Rattle.fsrm_model.specs.objects.Quota.{folder_of};
 ghost use Rattle.fsrm_model.specs.nodes.Tree.{number as key, chain, is_under};
 ghost use Rattle.fsrm_model.specs.store.Valid.{IsVolume};
@@ -14,7 +14,7 @@ ghost use Rattle.quota_usage.specs.Counters.{without_counter};
 ghost use Rattle.thresholds.specs.Settled.{are_orderly};
 ghost use Rattle.fsrm_engine.specs.Crossing.{is_crossing, lost_by, used_before, Drops, IsCovered, Notes};
 ghost use Rattle.fsrm_engine.specs.Due.{charged_acts, is_kept, Refuses};
-ghost use Rattle.fsrm_engine.specs.Machine.{charged_parts, AreCounted, IsCalm, IsIdle, Ran};
+ghost use Rattle.fsrm_engine.specs.Machine.{charged_parts, AreCounted, IsCalm, IsReady, Ran};
 ghost use Rattle.fsrm_engine.specs.Peaks.{raised, raised_to};
 
 use crate::due::settle_noted;
@@ -273,11 +273,8 @@ impl Parts {
     /// The answer to an operation that a quota refuses. If actions are due of the thresholds that the quota would have
     /// reached they run, and the command lasts; else nothing changes.
     pub(crate) fn refuse(&mut self, exceeded: Exceeded, moment: u64) -> Answer
-        requires counted { AreCounted self.old }
+        requires ready { IsReady self.old moment }
         requires there { has_row folder_of exceeded.folder self.old.objects.quotas ≡ true }
-        requires idle { IsIdle self.old }
-        requires log { length self.old.marks.log ≤ most_entries }
-        requires moment { moment ≤ latest_moment }
         ensures refused { Refuses self.old self.new moment exceeded result }
         ensures counted { AreCounted self.new }
     {

@@ -1,11 +1,11 @@
 //! Scans that finish at once, as a journal tells.
 
 ghost use Rattle.std.specs.Prelude.{◌≡◌, ◌+◌, ◌*◌, ◌≤◌, length};
-ghost use Rattle.fsrm_model.specs.values.Limits.{latest_moment};
 ghost use Rattle.fsrm_model.specs.objects.QuotaStates.{state_of};
 ghost use Rattle.fsrm_model.specs.store.Replays.{finish, finish_acts, is_unfinished};
 ghost use Rattle.fsrm_model.specs.nodes.Tree.{under};
-ghost use Rattle.fsrm_engine.specs.Machine.{AreMarked, IsIdle, IsSound, IsWhole, rows_of};
+ghost use Rattle.fsrm_engine.specs.Due.{MayFinish};
+ghost use Rattle.fsrm_engine.specs.Machine.{AreMarked, IsSound, rows_of};
 
 use crate::parts::Parts;
 use fsrm_model::{Ledger, QuotaState, Steps};
@@ -34,9 +34,7 @@ impl Parts {
     /// Finishes the scan of a folder at once, at a moment that may be before the last one, if the folder has a quota
     /// that is still to be counted.
     pub(crate) fn finish_fresh<L: Ledger>(&mut self, folder: u32, moment: u64, steps: &mut Steps<L>)
-        requires whole { IsWhole self.old }
-        requires idle { IsIdle self.old }
-        requires moment { moment ≤ latest_moment }
+        requires may { MayFinish self.old moment }
         ensures size { self.new.tree.size ≡ self.old.tree.size }
         ensures rows { rows_of self.new ≡ finish self.old.tree.size (rows_of self.old) moment folder }
         ensures acts { AreMarked self.new (finish_acts self.old.tree.size (rows_of self.old) moment folder) }

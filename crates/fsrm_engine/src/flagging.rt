@@ -49,9 +49,9 @@ impl Parts {
     /// Gives all scans up: the quotas that were rebuilding are incomplete from then on. The acts that wait go on to
     /// wait.
     pub(crate) fn flag_unfinished(&mut self)
-        requires whole { IsWhole self.old }
+        requires ascending { is_ascending folder_of self.old.objects.quotas ≡ true }
         ensures machine { machine_of self.new ≡ record (machine_of self.old) { rows = lasting (machine_of self.old).rows } }
-        ensures whole { IsWhole self.new }
+        ensures whole { IsWhole self.old → IsWhole self.new }
     {
         flag_all(&mut self.objects);
         self.scans.clear();

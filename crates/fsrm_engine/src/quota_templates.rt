@@ -9,8 +9,9 @@ ghost use Rattle.fsrm_model.specs.commands.Commands.{is_new_template, is_templat
 ghost use Rattle.fsrm_model.specs.objects.Templates.{template_named};
 ghost use Rattle.fsrm_model.specs.commands.TemplateWork.{retemplated};
 ghost use Rattle.fsrm_model.specs.objects.Thresholds.{percent_of};
+ghost use Rattle.fsrm_model.specs.store.Valid.{IsValid};
 ghost use Rattle.fsrm_model.specs.store.Valued.{is_deed};
-ghost use Rattle.fsrm_engine.specs.Machine.{Does, IsReady, IsSound, IsWhole, rows_of};
+ghost use Rattle.fsrm_engine.specs.Machine.{Does, IsReady, IsSound, rows_of};
 ghost use Rattle.fsrm_engine.specs.Memory.{may_want_memory};
 
 use crate::exits::{listing, refused, refused_by_templates};
@@ -68,7 +69,7 @@ fn retemplated(
 impl Parts {
     /// The template of a name, in any spelling.
     pub(crate) fn template_named(&self, name: &Text) -> Option<&TemplateRow>
-        requires { IsWhole self.now }
+        requires { IsValid self.now.tree.size (rows_of self.now) }
         ensures { option_copied result ≡ template_named self.now.templates.templates name.now }
     {
         let number = self.templates.find(name.as_str())?;

@@ -10,7 +10,7 @@ ghost use Rattle.fsrm_model.specs.objects.QuotaStates.{is_disabled};
 ghost use Rattle.fsrm_model.specs.commands.QuotaWork.{new_quota, modified, remarked};
 ghost use Rattle.fsrm_model.specs.objects.Thresholds.{percent_of};
 ghost use Rattle.fsrm_model.specs.store.Valued.{is_deed};
-ghost use Rattle.fsrm_engine.specs.Machine.{Does, IsReady, IsSound, IsWhole, rows_of};
+ghost use Rattle.fsrm_engine.specs.Machine.{Does, IsReady, IsSound, rows_of};
 ghost use Rattle.fsrm_engine.specs.Memory.{may_want_memory};
 ghost use Rattle.fsrm_engine.specs.Sources.{IsFirst};
 
@@ -84,7 +84,7 @@ impl Parts {
         state: QuotaState,
         moment: u64,
     ) -> Result<Option<QuotaRow>, NoMemory>
-        requires { IsWhole self.now }
+        requires ready { IsReady self.now moment }
         ensures { IfOk result (λ first. IsFirst (rows_of self.now) source.now folder state moment first) }
     {
         let Some(name) = source else {

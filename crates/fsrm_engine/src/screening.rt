@@ -8,11 +8,12 @@ ghost use Rattle.fsrm_model.specs.values.Limits.{latest_moment, most_actions, mo
 ghost use Rattle.fsrm_model.specs.values.Name.{is_name};
 ghost use Rattle.fsrm_model.specs.objects.Screens.{judging};
 ghost use Rattle.fsrm_model.specs.nodes.Tree.{chain, is_folder};
+ghost use Rattle.fsrm_model.specs.store.Valid.{IsValid};
 ghost use Rattle.quota_usage.specs.Charge.{IsChange, Fits, height};
 ghost use Rattle.thresholds.specs.Settled.{are_orderly};
 ghost use Rattle.file_screens.specs.Blocked.{told};
 ghost use Rattle.fsrm_engine.specs.Crossing.{IsCovered};
-ghost use Rattle.fsrm_engine.specs.Machine.{charged_parts, AreCounted, IsIdle, IsWhole, rows_of};
+ghost use Rattle.fsrm_engine.specs.Machine.{charged_parts, AreCounted, IsIdle, IsReady, rows_of};
 ghost use Rattle.file_screens.specs.Way.{is_active};
 ghost use Rattle.fsrm_engine.specs.Reporting.{EndsNamed, Reports, name_under, screen_told};
 ghost use Rattle.fsrm_engine.specs.Screening.{Blocks, NotesName, judged_screen};
@@ -41,7 +42,7 @@ impl Parts {
         name: &str,
         steps: &mut Steps<L>,
     ) -> Option<Blocked>
-        requires whole { IsWhole self.now }
+        requires store { IsValid self.now.tree.size (rows_of self.now) }
         requires folder { is_folder self.now.tree.nodes folder ≡ true }
         requires named { is_name name.now ≡ true }
         ensures judged { result ≡ option_map told (judging (rows_of self.now) folder name.now) }
@@ -58,7 +59,7 @@ impl Parts {
         name: &str,
         steps: &mut Steps<L>,
     ) -> Option<Blocked>
-        requires whole { IsWhole self.now }
+        requires store { IsValid self.now.tree.size (rows_of self.now) }
         requires folder { is_folder self.now.tree.nodes folder ≡ true }
         requires named { is_name name.now ≡ true }
         ensures judged { result ≡ (if moves_folder then None else option_map told (judging (rows_of self.now) folder name.now)) }
@@ -139,12 +140,9 @@ impl Parts {
         name: &str,
         moment: u64,
     ) -> Answer
-        requires counted { AreCounted self.old }
+        requires ready { IsReady self.old moment }
         requires there { option_map told (judged_screen self.old judged) ≡ Some judged }
-        requires few { (screen : ScreenRow) → judged_screen self.old judged ≡ Some screen → length screen.actions ≤ most_actions }
         requires named { is_name name.now ≡ true }
-        requires none { self.old.marks.places ≡ [] }
-        requires moment { moment ≤ latest_moment }
         ensures blocked { (screen : ScreenRow) → judged_screen self.old judged ≡ Some screen → Blocks self.old self.new (record { screen = screen; owner = owner; folder = folder; name = name.now }) moment result }
         ensures counted { AreCounted self.new }
     {

@@ -16,7 +16,7 @@ ghost use Rattle.rescan.specs.Courses.{Scanning, Turns};
 ghost use Rattle.volume_tree.specs.Volume.{Volume};
 ghost use Rattle.fsrm_objects.specs.Tables.{IsFault, other_fault, quota_fault};
 ghost use Rattle.fsrm_engine.specs.Faults.{text_room};
-ghost use Rattle.fsrm_engine.specs.Machine.{IsSound, IsWhole, Turned, rows_of};
+ghost use Rattle.fsrm_engine.specs.Machine.{IsSound, Turned, rows_of};
 
 use crate::parts::Parts;
 use fsrm_model::{Ledger, QuotaRow, QuotaState, Steps};
@@ -80,7 +80,7 @@ impl Parts {
         enabled: Option<bool>,
         steps: &mut Steps<L>,
     ) -> QuotaState
-        requires whole { IsWhole self.now }
+        requires volume { IsVolume self.now.tree.size self.now.tree.nodes }
         requires folder { is_folder self.now.tree.nodes folder ≡ true }
         requires state { state_of (rows_of self.now) folder ≡ state }
         ensures state { result ≡ state_after (rows_of self.now) folder enabled }

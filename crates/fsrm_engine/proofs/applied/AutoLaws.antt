@@ -106,7 +106,7 @@ source_found p name lent number w same h =
           row = t;
           named = e;
           number_is = same_Some number t.number h;
-          found = found_own template_number (is_named template_name name) p.templates.templates t (templates_ascend p w) e;
+          found = found_own template_number (is_named template_name name) p.templates.templates t (templates_ascend p w.valid) e;
         }
 
 pub source_none : (p : Parts) (name lent : List ℕ) → lent ≡ name → None ≡ option_map template_number (template_named p.templates.templates lent) → template_named p.templates.templates name ≡ None

@@ -19,20 +19,19 @@ use Rattle.fsrm_model.specs.objects.Templates.{is_template, template_name, templ
 use Rattle.fsrm_model.specs.values.Texts.{template_bytes, threshold_bytes}
 use Rattle.fsrm_model.specs.objects.Thresholds.{are_thresholds}
 use Rattle.fsrm_model.specs.nodes.Tree.{is_folder, usage}
-use Rattle.fsrm_model.specs.store.Valid.{IsVolume, is_moment}
+use Rattle.fsrm_model.specs.store.Valid.{IsValid, IsVolume, is_moment}
 use Rattle.fsrm_model.proofs.valid.NamesApart.{named_parts}
 use Rattle.fsrm_model.proofs.valid.TemplatesKept.{IsTemplate, template_parts}
 use Rattle.fsrm_engine.specs.declared.parts.Parts.{Parts}
 use Rattle.fsrm_engine.specs.Applying.{AreComing, derived_bytes, derived_rows, quotas_full}
 use Rattle.fsrm_engine.specs.Faults.{text_room}
-use Rattle.fsrm_engine.specs.Machine.{IsWhole}
+use Rattle.fsrm_engine.specs.Machine.{IsWhole, rows_of}
 use Rattle.fsrm_engine.proofs.applied.ComingRows.{derived_absent, derived_ascend, derived_folders, derived_legal, derived_many, derived_texts}
-use Rattle.fsrm_engine.proofs.tables.RoomLaws.{few_texts}
 use Rattle.fsrm_engine.proofs.tables.StateLaws.{empty_folder, first_empty}
 
 -- the templates of a store
-pub templates_ascend : (p : Parts) → IsWhole p → is_ascending template_number p.templates.templates ≡ true
-templates_ascend p w = (named_parts template_number template_name most_templates is_template p.templates.templates w.valid.tables.templates).ascending
+pub templates_ascend : (p : Parts) → IsValid p.tree.size (rows_of p) → is_ascending template_number p.templates.templates ≡ true
+templates_ascend p s = (named_parts template_number template_name most_templates is_template p.templates.templates s.tables.templates).ascending
 
 pub template_legal : (p : Parts) (n : ℕ) (t : TemplateRow) → IsWhole p → template_of p.templates.templates n ≡ Some t → IsTemplate t
 template_legal p n t w found =
@@ -40,11 +39,10 @@ template_legal p n t w found =
     template_parts t (all_found is_template (λ x. template_number x == n) p.templates.templates t all.each found)
 
 -- their texts are few
-pub template_few : (p : Parts) (n : ℕ) (t : TemplateRow) → IsWhole p → template_of p.templates.templates n ≡ Some t → threshold_bytes t.thresholds ≤ most_text_bytes
-template_few p n t w found =
-    let one = sum_by-without_row template_number template_bytes n t p.templates.templates (templates_ascend p w) found in
-    let all = few_texts p w in
-    omega (arith, one, all)
+pub template_few : (p : Parts) (n : ℕ) (t : TemplateRow) → IsValid p.tree.size (rows_of p) → template_of p.templates.templates n ≡ Some t → threshold_bytes t.thresholds ≤ most_text_bytes
+template_few p n t s found =
+    let one = sum_by-without_row template_number template_bytes n t p.templates.templates (templates_ascend p s) found in
+    omega (arith, one, s.texts)
 
 -- ---- they may come
 module _ (p : Parts) (t : TemplateRow) (moment : ℕ) (volume : IsVolume p.tree.size p.tree.nodes) where

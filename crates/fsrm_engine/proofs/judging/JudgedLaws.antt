@@ -12,7 +12,7 @@ use Rattle.fsrm_model.specs.values.Patterns.{group_number}
 use Rattle.fsrm_model.specs.objects.Screens.{screen_folder, except_folder, judging}
 use Rattle.fsrm_model.specs.objects.Thresholds.{is_kept_action}
 use Rattle.fsrm_model.specs.nodes.Tree.{is_folder}
-use Rattle.fsrm_model.specs.store.Valid.{are_group_numbers, is_sound_except, is_sound_screen}
+use Rattle.fsrm_model.specs.store.Valid.{IsValid, are_group_numbers, is_sound_except, is_sound_screen}
 use Rattle.fsrm_model.proofs.screens.JudgingLaws.{judging_own}
 use Rattle.fsrm_model.proofs.valid.ScreensKept.{all_weaker, number_parts, screen_at, screen_parts, table_parts}
 use Rattle.file_screens.specs.declared.answer.Blocked.{Blocked}
@@ -64,10 +64,10 @@ few_told p None screen w h = cc h
 few_told p (Some judged) screen w h = few_at p judged.screen screen w h
 
 -- the groups of screens and exceptions are there
-pub groups_known : (p : Parts) → IsWhole p → are_known p.groups p.objects ≡ true
-groups_known p w =
-    let screens = table_parts screen_folder most_screens (is_sound_screen p.tree.nodes p.groups p.objects.excepts) p.objects.screens w.valid.tables.screens in
-    let excepts = table_parts except_folder most_excepts (is_sound_except p.tree.nodes p.groups) p.objects.excepts w.valid.tables.excepts in
+pub groups_known : (p : Parts) → IsValid p.tree.size (rows_of p) → are_known p.groups p.objects ≡ true
+groups_known p s =
+    let screens = table_parts screen_folder most_screens (is_sound_screen p.tree.nodes p.groups p.objects.excepts) p.objects.screens s.tables.screens in
+    let excepts = table_parts except_folder most_excepts (is_sound_except p.tree.nodes p.groups) p.objects.excepts s.tables.excepts in
     let known : List ℕ → Bool = λ numbers. list_all (λ n. has_row group_number n p.groups) numbers in
     both_true (list_all (λ (screen : ScreenRow). known screen.groups) p.objects.screens) (list_all (λ (except : ExceptRow). known except.groups) p.objects.excepts)
     (all_weaker (is_sound_screen p.tree.nodes p.groups p.objects.excepts) (λ (screen : ScreenRow). known screen.groups) p.objects.screens

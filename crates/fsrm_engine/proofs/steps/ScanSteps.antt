@@ -28,7 +28,7 @@ use Rattle.thresholds.specs.Settled.{due_in}
 use Rattle.fsrm_model.proofs.valid.RowsKept.{head_in}
 use Rattle.fsrm_engine.specs.declared.parts.Parts.{Parts}
 use Rattle.fsrm_engine.specs.Due.{Finishes, with_complete}
-use Rattle.fsrm_engine.specs.Machine.{AreCounted, Does, IsIdle, IsSound, rows_of}
+use Rattle.fsrm_engine.specs.Machine.{AreCounted, Does, IsIdle, IsReady, IsSound, IsWhole, rows_of}
 use Rattle.fsrm_engine.specs.Peaks.{raised}
 use Rattle.fsrm_engine.proofs.settling.ChangedDue.{due_begun}
 use Rattle.fsrm_engine.proofs.settling.EndLaws.{due_of}
@@ -82,6 +82,15 @@ visited_left p mid k kept left_is =
           told sound.scanning (ap (λ (R : Rows). is_some (head R.queue)) left_is ∙ ap is_some h)
           ∙ ap (λ (q : Parts). length (left q.tree.nodes mid.scans) == 0) kept;
       used = λ n. ap (λ (q : Parts). usage q.tree.size q.tree.nodes n) kept;
+    }
+
+pub visited_ready : (p mid : Parts) (m : ℕ) → mid ≡ record p { scans = mid.scans } → IsReady p m → IsWhole mid → IsReady mid m
+visited_ready p mid m kept ready whole =
+    record {
+      whole = whole;
+      idle = subst IsIdle (sym kept) (record { numbers = ready.idle.numbers; places = ready.idle.places; crossing = ready.idle.crossing });
+      in_range = ready.in_range;
+      after = subst (λ (q : Parts). q.last_moment ≤ m) (sym kept) ready.after;
     }
 
 step_checks : (R : Rows) (n : ℕ) → head R.queue ≡ Some n → first ((NothingToScan when (length R.queue == 0)) ∷ []) ≡ None

@@ -29,7 +29,7 @@ use Rattle.fsrm_model.specs.commands.QuotaWork.{changed_by, first_quota, source_
 use Rattle.fsrm_model.specs.objects.Templates.{is_template, template_name, template_named, template_number, template_of}
 use Rattle.fsrm_model.specs.objects.Thresholds.{are_thresholds, are_too_many, is_threshold, percent_of}
 use Rattle.fsrm_model.specs.nodes.Tree.{is_folder, usage}
-use Rattle.fsrm_model.specs.store.Valid.{is_moment}
+use Rattle.fsrm_model.specs.store.Valid.{IsValid, is_moment}
 use Rattle.fsrm_model.proofs.commands.ValueParts.{AreNewThresholds}
 use Rattle.fsrm_model.proofs.valid.NamesApart.{IsNamedTable, named_parts}
 use Rattle.fsrm_model.proofs.valid.TemplatesKept.{template_parts}
@@ -51,29 +51,29 @@ use Rattle.fsrm_engine.proofs.tables.StateLaws.{empty_folder, first_empty, on_fo
 use Rattle.fsrm_engine.proofs.tables.TurnLaws.{turned_accepts, turned_keeps}
 
 -- ---- the templates of a store
-pub templates_are : (p : Parts) → IsWhole p → IsNamedTable template_number template_name most_templates is_template p.templates.templates
-templates_are p w = named_parts template_number template_name most_templates is_template p.templates.templates w.valid.tables.templates
+pub templates_are : (p : Parts) → IsValid p.tree.size (rows_of p) → IsNamedTable template_number template_name most_templates is_template p.templates.templates
+templates_are p s = named_parts template_number template_name most_templates is_template p.templates.templates s.tables.templates
 
 -- one that has a name, in any spelling
-module _ (p : Parts) (name : List ℕ) (t : TemplateRow) (w : IsWhole p) (is : template_named p.templates.templates name ≡ Some t) where
+module _ (p : Parts) (name : List ℕ) (t : TemplateRow) (s : IsValid p.tree.size (rows_of p)) (is : template_named p.templates.templates name ≡ Some t) where
   pub named_found : template_of p.templates.templates t.number ≡ Some t
-  named_found = found_own template_number (is_named template_name name) p.templates.templates t (templates_are p w).ascending is
+  named_found = found_own template_number (is_named template_name name) p.templates.templates t (templates_are p s).ascending is
 
   pub named_there : has_row template_number t.number p.templates.templates ≡ true
   named_there = found_has template_number t.number p.templates.templates t named_found
 
   pub named_legal : is_template t ≡ true
-  named_legal = all_found is_template (is_named template_name name) p.templates.templates t (templates_are p w).each is
+  named_legal = all_found is_template (is_named template_name name) p.templates.templates t (templates_are p s).each is
 
-pub found_named : (p : Parts) (name lent : List ℕ) (n : ℕ) → IsWhole p → lent ≡ name → Some n ≡ option_map template_number (template_named p.templates.templates lent) → template_of p.templates.templates n ≡ template_named p.templates.templates name
-found_named p name lent n w same h = at (template_named ts lent) refl h ∙ ap (template_named ts) same
+pub found_named : (p : Parts) (name lent : List ℕ) (n : ℕ) → IsValid p.tree.size (rows_of p) → lent ≡ name → Some n ≡ option_map template_number (template_named p.templates.templates lent) → template_of p.templates.templates n ≡ template_named p.templates.templates name
+found_named p name lent n s same h = at (template_named ts lent) refl h ∙ ap (template_named ts) same
   where
     ts : List TemplateRow
     ts = p.templates.templates
 
     at : (o : Option TemplateRow) → template_named ts lent ≡ o → Some n ≡ option_map template_number o → template_of ts n ≡ template_named ts lent
     at None e h = cc
-    at (Some t) e h = ap (template_of ts) (same_Some n t.number h) ∙ (named_found p lent t w e ∙ sym e)
+    at (Some t) e h = ap (template_of ts) (same_Some n t.number h) ∙ (named_found p lent t s e ∙ sym e)
 
 pub none_named : (templates : List TemplateRow) (name lent : List ℕ) → lent ≡ name → None ≡ option_map template_number (template_named templates lent) → template_named templates name ≡ None
 none_named templates name lent same h = ap (template_named templates) (sym same) ∙ at (template_named templates lent) h
@@ -108,7 +108,7 @@ module _ (folder : ℕ) (state : QuotaState) (m : ℕ) where
 
 pub source_legal : (p : Parts) (name : Option (List ℕ)) (t : TemplateRow) → IsWhole p → source_of (rows_of p) name ≡ Some t → is_template t ≡ true
 source_legal p None t w h = cc
-source_legal p (Some name) t w h = named_legal p name t w h
+source_legal p (Some name) t w h = named_legal p name t w.valid h
 
 -- what was found is so
 pub first_found : (R : Rows) (name : Option (List ℕ)) (folder : ℕ) (state : QuotaState) (m : ℕ) (o : Option QuotaRow) (row : QuotaRow) → o ≡ Some row → IsFirst R name folder state m o → (is_missing R name ≡ false) × (row ≡ first_quota (source_of R name) folder state m)

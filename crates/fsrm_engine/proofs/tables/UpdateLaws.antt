@@ -148,7 +148,7 @@ module _ (p : Parts) (m : ℕ) (values : TemplateChange) where
     module _ (w : IsWhole p) (row : TemplateRow) (made : row ≡ change t) where
       -- the template of the row's number is that one, and has the row's name
       pub row_found : template_of p.templates.templates row.number ≡ Some t
-      row_found = ap (λ (r : TemplateRow). template_of p.templates.templates r.number) made ∙ named_found p values.name t w is
+      row_found = ap (λ (r : TemplateRow). template_of p.templates.templates r.number) made ∙ named_found p values.name t w.valid is
 
       pub row_named : option_map template_name (template_of p.templates.templates row.number) ≡ Some row.name
       row_named = ap (option_map template_name) row_found ∙ ap (λ (r : TemplateRow). Some r.name) (sym made)
@@ -170,8 +170,8 @@ module _ (p : Parts) (m : ℕ) (values : TemplateChange) where
       effect_is =
           let ts = p.templates.templates in
           let tables : with_change template_number t.number change ts ≡ (with_other p.templates row).templates =
-          change_same template_number t.number change (λ r. row) ts (templates_are p w).ascending
-          (λ r found. ap change (same_Some r t (sym found ∙ named_found p values.name t w is)) ∙ sym made)
+          change_same template_number t.number change (λ r. row) ts (templates_are p w.valid).ascending
+          (λ r found. ap change (same_Some r t (sym found ∙ named_found p values.name t w.valid is)) ∙ sym made)
           ∙ ap (λ k. with_change template_number k (λ r. row) ts) (sym (ap (λ (r : TemplateRow). r.number) made)) in
           ap (λ (rows : List TemplateRow). record (rows_of p) { templates = rows; quotas = map (updated values.update t (change t)) p.objects.quotas }) tables
           ∙ ap (λ (rows : List QuotaRow). record (rows_of p) { templates = (with_other p.templates row).templates; quotas = rows })

@@ -5,8 +5,15 @@ use Rattle.fsrm_engine.proofs.steps.FinishLaws.{finish_seen, finish_whole, seen_
 use Rattle.fsrm_engine.proofs.steps.WholeLaws.{seen_idle}
 use Rattle.fsrm_engine.proofs.engine.Engine.finish_fresh.Goals as goal
 
-pub finish_fresh-requires-clause-idle : goal.finish_fresh-requires-clause-idle
-finish_fresh-requires-clause-idle g c = seen_idle c.self.inside.parts c.args.self.now c.self.invariant c.self.view_is c.requires.idle
+pub finish_fresh-requires : goal.finish_fresh-requires
+finish_fresh-requires g c =
+    record {
+      may = record {
+        sound = c.self.invariant.sound;
+        idle = seen_idle c.self.inside.parts c.args.self.now c.self.invariant c.self.view_is c.requires.idle;
+        in_range = c.requires.moment;
+      };
+    }
 
 pub invariant_of-self : goal.invariant_of-self
 invariant_of-self g c =

@@ -13,8 +13,8 @@ receive-requires c =
     let p = c.args.self.now in
     let held = c.add_auto.new.self in
     record {
-      sound = ruled_sound p held c.requires.whole.sound;
-      queue = c.requires.whole.valid.queue;
+      sound = ruled_sound p held c.requires.sound;
+      queue = c.requires.queue;
       coming = subst (λ (h : Held). AreComing (ruled p h) c.args.rows.items) (sym c.in-Ok.ensures.ok) c.requires.coming;
     }
 
@@ -33,4 +33,4 @@ returns-in_default-receive-clause-err c =
     ∙ (ap (λ (h : Held). ruled p (without_auto h row.folder)) c.in-Ok.ensures.ok ∙ taken_back p row c.requires.absent))
 
 pub returns-in_default-receive-clause-sound : goal.returns-in_default-receive-clause-sound
-returns-in_default-receive-clause-sound c = subst IsSound (sym (returns-in_default-receive-clause-err c)) c.requires.whole.sound
+returns-in_default-receive-clause-sound c = subst IsSound (sym (returns-in_default-receive-clause-err c)) c.requires.sound

@@ -11,7 +11,7 @@ use Rattle.fsrm_engine.specs.declared.parts.Parts.{Parts}
 use Rattle.fsrm_engine.specs.Machine.{charged_parts}
 use Rattle.fsrm_engine.specs.Reporting.{name_under, screen_told}
 use Rattle.fsrm_engine.proofs.judging.DoneLaws.{done_named, sound_named}
-use Rattle.fsrm_engine.proofs.judging.JudgedLaws.{few_at, few_told, told_one, told_there}
+use Rattle.fsrm_engine.proofs.judging.JudgedLaws.{few_told, told_one, told_there}
 use Rattle.fsrm_engine.proofs.judging.NameLaws.{answers_it, block_sound, blocked_op, created_judged, unblocked}
 use Rattle.fsrm_engine.proofs.steps.StepLaws.{refused_as}
 use Rattle.fsrm_engine.proofs.steps.PlaceLaws.{place_depth}
@@ -65,9 +65,6 @@ returns-in-Err-admit-clause-sound g c =
 pub refuse-requires-clause-there : goal.refuse-requires-clause-there
 refuse-requires-clause-there g c =
     refuser_there c.args.self.now (record { from = None; to = Some c.in-Ok.found.0.folder; minus = 0; plus = c.allocated.result }) c.in-Err-admit.exceeded c.requires.ready.whole.sound.counted c.in-Err-admit.ensures.err
-
-pub refuse-requires-clause-log : goal.refuse-requires-clause-log
-refuse-requires-clause-log g c = few_log c.args.self.now c.requires.ready.whole
 
 pub returns-in-Err-admit-clause-looks : goal.returns-in-Err-admit-clause-looks
 returns-in-Err-admit-clause-looks g c =
@@ -202,9 +199,6 @@ block-requires-clause-there g c =
     let judged = c.judge-judged.result in
     let j = created_judged p c.args.path.now c.args.length c.args.owner d name judged c.in-Ok.ensures.ok.at c.judge-judged.ensures.judged in
     told_one p judged c.in-Some.active j.there c.in-Some.ensures.0
-
-pub block-requires-clause-few : goal.block-requires-clause-few
-block-requires-clause-few g c = λ screen found. few_at c.args.self.now c.in-Some.active.screen screen c.requires.ready.whole found
 
 pub returns-in-Some-clause-ok : goal.returns-in-Some-clause-ok
 returns-in-Some-clause-ok g c =

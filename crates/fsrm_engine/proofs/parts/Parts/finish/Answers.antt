@@ -5,26 +5,26 @@ use Rattle.fsrm_engine.proofs.steps.ScanSteps.{head_quota, head_uncounted, next_
 use Rattle.fsrm_engine.proofs.parts.Parts.finish.Goals as goal
 
 pub complete-requires-clause-there : goal.complete-requires-clause-there
-complete-requires-clause-there c = head_quota c.args.self.now.objects.quotas c.args.self.now.scans.queue c.args.folder c.requires.whole.valid.queue c.requires.active
+complete-requires-clause-there c = head_quota c.args.self.now.objects.quotas c.args.self.now.scans.queue c.args.folder c.requires.ready.whole.valid.queue c.requires.active
 
 pub complete-requires-clause-uncounted : goal.complete-requires-clause-uncounted
 complete-requires-clause-uncounted c quota found =
-    head_uncounted c.args.self.now.objects.quotas c.args.self.now.scans.queue c.args.folder quota c.requires.whole.valid.queue c.requires.active found
+    head_uncounted c.args.self.now.objects.quotas c.args.self.now.scans.queue c.args.folder quota c.requires.ready.whole.valid.queue c.requires.active found
 
 pub complete-requires-clause-used : goal.complete-requires-clause-used
 complete-requires-clause-used c =
     let p = c.args.self.now in
-    c.finish-used.ensures.used p.tree c.requires.whole.sound.scanning
+    c.finish-used.ensures.used p.tree c.requires.ready.whole.sound.scanning
     ∙ ap (λ o. usage p.tree.size p.tree.nodes (unwrap_or o 0)) c.requires.active
 
 pub returns-clause-used : goal.returns-clause-used
 returns-clause-used c =
     let p = c.args.self.now in
-    c.finish-used.ensures.used p.tree c.requires.whole.sound.scanning
+    c.finish-used.ensures.used p.tree c.requires.ready.whole.sound.scanning
     ∙ ap (λ o. usage p.tree.size p.tree.nodes (unwrap_or o 0)) c.requires.active
 
 pub complete-requires-clause-idle : goal.complete-requires-clause-idle
-complete-requires-clause-idle c = record { numbers = c.requires.idle.numbers; places = c.requires.idle.places; crossing = c.requires.idle.crossing }
+complete-requires-clause-idle c = record { numbers = c.requires.ready.idle.numbers; places = c.requires.ready.idle.places; crossing = c.requires.ready.idle.crossing }
 
 pub returns-clause-finished : goal.returns-clause-finished
 returns-clause-finished c =
@@ -32,7 +32,7 @@ returns-clause-finished c =
     record {
       scans = c.finish-used.new.self;
       queue_is = next_queue p.scans c.finish-used.new.self c.args.folder c.requires.active c.finish-used.ensures.queue;
-      turns = c.finish-used.ensures.turns p.tree c.requires.whole.sound.scanning;
+      turns = c.finish-used.ensures.turns p.tree c.requires.ready.whole.sound.scanning;
       completes = c.complete.ensures.completed;
     }
 

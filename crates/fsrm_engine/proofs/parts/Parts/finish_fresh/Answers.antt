@@ -21,17 +21,17 @@ returns-then-not-is_unfinished-clause-acts g c =
     let p = c.args.self.now in
     subst (AreMarked p)
     (sym (ap (λ b. if b then (completed p.tree.size (rows_of p) c.args.moment c.args.folder).acts else []) (sym c.is_unfinished.ensures ∙ c.if-not-is_unfinished.true)))
-    (idle_marked p c.requires.idle)
+    (idle_marked p c.requires.may.idle)
 
 -- the folder is counted
 pub sum_below-used-requires-clause-folder : goal.sum_below-used-requires-clause-folder
 sum_below-used-requires-clause-folder g c =
     let p = c.args.self.now in
     let u = unfinished p.objects.quotas c.args.folder _ refl (sym c.is_unfinished.ensures ∙ c.if-not-is_unfinished.false) in
-    c.requires.whole.sound.counted.are_quotas.folders c.args.folder u.row u.found
+    c.requires.may.sound.counted.are_quotas.folders c.args.folder u.row u.found
 
 pub sum_below-used-requires-clause-counters : goal.sum_below-used-requires-clause-counters
-sum_below-used-requires-clause-counters g c = counters_are c.args.self.now c.requires.whole.sound.counted
+sum_below-used-requires-clause-counters g c = counters_are c.args.self.now c.requires.may.sound.counted
 
 pub complete-requires-clause-there : goal.complete-requires-clause-there
 complete-requires-clause-there g c = (unfinished c.args.self.now.objects.quotas c.args.folder _ refl (sym c.is_unfinished.ensures ∙ c.if-not-is_unfinished.false)).there
@@ -43,23 +43,23 @@ complete-requires-clause-uncounted g c quota found =
     subst (λ (q : QuotaRow). counts q ≡ false) (same_Some u.row quota (sym u.found ∙ found)) u.uncounted
 
 pub complete-requires-clause-idle : goal.complete-requires-clause-idle
-complete-requires-clause-idle g c = record { numbers = c.requires.idle.numbers; places = c.requires.idle.places; crossing = c.requires.idle.crossing }
+complete-requires-clause-idle g c = record { numbers = c.requires.may.idle.numbers; places = c.requires.may.idle.places; crossing = c.requires.may.idle.crossing }
 
 pub returns-clause-size : goal.returns-clause-size
 returns-clause-size g c =
     let p = c.args.self.now in
     let is = sym c.is_unfinished.ensures ∙ c.if-not-is_unfinished.false in
     let u = unfinished p.objects.quotas c.args.folder _ refl is in
-    let f = fresh_finish p c.complete.new.self c.sum_below-used.new.self c.leave.new.self c.args.folder c.args.moment c.sum_below-used.ensures.kept c.leave.ensures.queue c.leave.ensures.turns c.requires.whole.sound.scanning c.complete.ensures.completed in
-    (finish_ends p c.complete.new.self c.args.moment c.args.folder u.row f c.requires.idle u.found u.uncounted).size_is
+    let f = fresh_finish p c.complete.new.self c.sum_below-used.new.self c.leave.new.self c.args.folder c.args.moment c.sum_below-used.ensures.kept c.leave.ensures.queue c.leave.ensures.turns c.requires.may.sound.scanning c.complete.ensures.completed in
+    (finish_ends p c.complete.new.self c.args.moment c.args.folder u.row f c.requires.may.idle u.found u.uncounted).size_is
 
 pub returns-clause-rows : goal.returns-clause-rows
 returns-clause-rows g c =
     let p = c.args.self.now in
     let is = sym c.is_unfinished.ensures ∙ c.if-not-is_unfinished.false in
     let u = unfinished p.objects.quotas c.args.folder _ refl is in
-    let f = fresh_finish p c.complete.new.self c.sum_below-used.new.self c.leave.new.self c.args.folder c.args.moment c.sum_below-used.ensures.kept c.leave.ensures.queue c.leave.ensures.turns c.requires.whole.sound.scanning c.complete.ensures.completed in
-    (finish_ends p c.complete.new.self c.args.moment c.args.folder u.row f c.requires.idle u.found u.uncounted).rows_are
+    let f = fresh_finish p c.complete.new.self c.sum_below-used.new.self c.leave.new.self c.args.folder c.args.moment c.sum_below-used.ensures.kept c.leave.ensures.queue c.leave.ensures.turns c.requires.may.sound.scanning c.complete.ensures.completed in
+    (finish_ends p c.complete.new.self c.args.moment c.args.folder u.row f c.requires.may.idle u.found u.uncounted).rows_are
     ∙ sym (ap (λ b. if b then finished p.tree.size (rows_of p) c.args.moment c.args.folder else rows_of p) is)
 
 pub returns-clause-acts : goal.returns-clause-acts
@@ -67,12 +67,12 @@ returns-clause-acts g c =
     let p = c.args.self.now in
     let is = sym c.is_unfinished.ensures ∙ c.if-not-is_unfinished.false in
     let u = unfinished p.objects.quotas c.args.folder _ refl is in
-    let f = fresh_finish p c.complete.new.self c.sum_below-used.new.self c.leave.new.self c.args.folder c.args.moment c.sum_below-used.ensures.kept c.leave.ensures.queue c.leave.ensures.turns c.requires.whole.sound.scanning c.complete.ensures.completed in
+    let f = fresh_finish p c.complete.new.self c.sum_below-used.new.self c.leave.new.self c.args.folder c.args.moment c.sum_below-used.ensures.kept c.leave.ensures.queue c.leave.ensures.turns c.requires.may.sound.scanning c.complete.ensures.completed in
     subst (AreMarked c.complete.new.self) (sym (ap (λ b. if b then (completed p.tree.size (rows_of p) c.args.moment c.args.folder).acts else []) is))
-    (finish_ends p c.complete.new.self c.args.moment c.args.folder u.row f c.requires.idle u.found u.uncounted).acts_are
+    (finish_ends p c.complete.new.self c.args.moment c.args.folder u.row f c.requires.may.idle u.found u.uncounted).acts_are
 
 pub returns-clause-sound : goal.returns-clause-sound
 returns-clause-sound g c =
     let p = c.args.self.now in
-    let f = fresh_finish p c.complete.new.self c.sum_below-used.new.self c.leave.new.self c.args.folder c.args.moment c.sum_below-used.ensures.kept c.leave.ensures.queue c.leave.ensures.turns c.requires.whole.sound.scanning c.complete.ensures.completed in
+    let f = fresh_finish p c.complete.new.self c.sum_below-used.new.self c.leave.new.self c.args.folder c.args.moment c.sum_below-used.ensures.kept c.leave.ensures.queue c.leave.ensures.turns c.requires.may.sound.scanning c.complete.ensures.completed in
     finished_sound p c.complete.new.self c.args.folder c.args.moment f c.complete.ensures.counted

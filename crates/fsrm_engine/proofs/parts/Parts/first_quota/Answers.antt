@@ -20,7 +20,7 @@ pub derive-requires : goal.derive-requires
 derive-requires c =
     let p = c.args.self.now in
     let is : template_named p.templates.templates c.in-Some.name ≡ Some c.in-Some-template_named.template.now = sym c.template_named.ensures ∙ ap option_copied c.in-Some-template_named.is in
-    named_there p c.in-Some.name c.in-Some-template_named.template.now c.requires is
+    named_there p c.in-Some.name c.in-Some-template_named.template.now c.requires.ready.whole.valid is
 
 pub returns : goal.returns
 returns c =
@@ -29,4 +29,4 @@ returns c =
     let state = c.args.state in
     let is : template_named p.templates.templates c.in-Some.name ≡ Some t = sym c.template_named.ensures ∙ ap option_copied c.in-Some-template_named.is in
     subst (λ o. IsFirst (rows_of p) o c.args.folder state c.args.moment (Some c.in_ok-row.row)) (sym c.in-Some.is)
-    (ap is_none is, c.in_ok-row.ensures t (named_found p c.in-Some.name t c.requires is) ∙ sym (ap (λ o. first_quota o c.args.folder state c.args.moment) is))
+    (ap is_none is, c.in_ok-row.ensures t (named_found p c.in-Some.name t c.requires.ready.whole.valid is) ∙ sym (ap (λ o. first_quota o c.args.folder state c.args.moment) is))

@@ -12,7 +12,7 @@ returns-clause-machine c =
     ∙ (ap (λ (s : Course). machine_of (record (flagged_parts p) { scans = s })) c.clear.ensures ∙ flagged_seen p)
 
 pub returns-clause-whole : goal.returns-clause-whole
-returns-clause-whole c =
+returns-clause-whole c whole =
     let p = c.args.self.now in
     subst (λ (t : Tables). IsWhole (record p { objects = t; scans = c.clear.new.self })) (sym c.flag_all.ensures)
-    (subst (λ (s : Course). IsWhole (record (flagged_parts p) { scans = s })) (sym c.clear.ensures) (flagged_whole p c.requires.whole))
+    (subst (λ (s : Course). IsWhole (record (flagged_parts p) { scans = s })) (sym c.clear.ensures) (flagged_whole p whole))

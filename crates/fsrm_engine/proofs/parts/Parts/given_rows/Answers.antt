@@ -10,7 +10,7 @@ derived_rows-requires-clause-folders g c =
     let p = c.args.self.now in
     let row = c.args.row.now in
     ap (list_all (is_folder p.tree.nodes)) (c.deref.ensures.value ∙ c.in_ok-folders.ensures.folders)
-    ∙ passing_folders p.tree.nodes row.folder c.requires.whole.sound.counted.volume.ascending (gets_one p.tree.nodes p.objects.quotas row)
+    ∙ passing_folders p.tree.nodes row.folder c.requires.ready.whole.sound.counted.volume.ascending (gets_one p.tree.nodes p.objects.quotas row)
 
 pub returns-in_err-rows-clause-looks : goal.returns-in_err-rows-clause-looks
 returns-in_err-rows-clause-looks g c =
@@ -21,7 +21,7 @@ returns-in_err-rows-clause-looks g c =
       c.given_folders.ensures.looks,
       c.derived_rows.ensures.looks,
       ap length (c.deref.ensures.value ∙ c.in_ok-folders.ensures.folders),
-      passing_few p.tree.nodes row.folder c.requires.whole.sound.counted.volume.ascending (gets_one p.tree.nodes p.objects.quotas row),
+      passing_few p.tree.nodes row.folder c.requires.ready.whole.sound.counted.volume.ascending (gets_one p.tree.nodes p.objects.quotas row),
     )
 
 pub returns-clause-looks : goal.returns-clause-looks
@@ -33,5 +33,5 @@ returns-clause-looks g c =
       c.given_folders.ensures.looks,
       c.derived_rows.ensures.looks,
       ap length (c.deref.ensures.value ∙ c.in_ok-folders.ensures.folders),
-      passing_few p.tree.nodes row.folder c.requires.whole.sound.counted.volume.ascending (gets_one p.tree.nodes p.objects.quotas row),
+      passing_few p.tree.nodes row.folder c.requires.ready.whole.sound.counted.volume.ascending (gets_one p.tree.nodes p.objects.quotas row),
     )

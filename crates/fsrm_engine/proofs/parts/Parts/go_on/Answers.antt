@@ -7,8 +7,8 @@ use Rattle.fsrm_model.specs.declared.command.Refusal.TheVariants.{NothingToScan}
 use Rattle.fsrm_model.specs.objects.Quota.{folder_of}
 use Rattle.fsrm_engine.specs.declared.parts.Parts.{Parts}
 use Rattle.fsrm_engine.specs.Due.{Finishes}
-use Rattle.fsrm_engine.specs.Machine.{Does, IsIdle}
-use Rattle.fsrm_engine.proofs.steps.ScanSteps.{head_quota, head_uncounted, none_checks, step_ending, step_passing, visited_left}
+use Rattle.fsrm_engine.specs.Machine.{Does}
+use Rattle.fsrm_engine.proofs.steps.ScanSteps.{head_quota, head_uncounted, none_checks, step_ending, step_passing, visited_left, visited_ready}
 use Rattle.fsrm_engine.proofs.steps.StepLaws.{refused_as}
 use Rattle.fsrm_engine.proofs.parts.Parts.go_on.Goals as goal
 
@@ -28,7 +28,7 @@ returns-then-not-done-clause-ok g c =
     subst (λ (answer : Answer). Does p v.new.self c.args.moment (Step c.args.n) answer) (sym c.passing.ensures)
     (subst (λ (q : Parts). Does p q c.args.moment (Step c.args.n) (record { outcome = Scanned n v.result None; lasting = false })) (sym v.ensures.kept)
     (step_passing p s c.args.n c.args.moment n v.result c.requires.ready.idle c.requires.ready.after h is.rows (v.ensures.visited ∙ is.count)
-    (sym (is.done n c.done.result v.ensures.whole.sound h (c.done.ensures v.new.self.tree)) ∙ c.if-not-done.true)))
+    (sym (is.done n c.done.result (v.ensures.whole c.requires.ready.whole).sound h (c.done.ensures v.new.self.tree)) ∙ c.if-not-done.true)))
 
 pub returns-clause-ok : goal.returns-clause-ok
 returns-clause-ok g c =
@@ -43,9 +43,9 @@ returns-clause-ok g c =
     step_ending p c.finish-used.new.self s c.args.n c.args.moment n v.result c.finish-used.result f.row
     (subst (λ (q : Parts). Finishes q c.finish-used.new.self n c.args.moment) v.ensures.kept c.finish-used.ensures.finished)
     c.requires.ready.idle c.requires.ready.after h f.is (head_uncounted p.objects.quotas p.scans.queue n f.row queue h f.is) is.rows (v.ensures.visited ∙ is.count)
-    (sym (is.done n c.done.result v.ensures.whole.sound h (c.done.ensures v.new.self.tree)) ∙ c.if-not-done.false)
+    (sym (is.done n c.done.result (v.ensures.whole c.requires.ready.whole).sound h (c.done.ensures v.new.self.tree)) ∙ c.if-not-done.false)
     (c.finish-used.ensures.used ∙ is.used n)
 
-pub finish-used-requires-clause-idle : goal.finish-used-requires-clause-idle
-finish-used-requires-clause-idle g c =
-    subst IsIdle (sym c.visit-visited.ensures.kept) (record { numbers = c.requires.ready.idle.numbers; places = c.requires.ready.idle.places; crossing = c.requires.ready.idle.crossing })
+pub finish-used-requires-clause-ready : goal.finish-used-requires-clause-ready
+finish-used-requires-clause-ready g c =
+    visited_ready c.args.self.now c.visit-visited.new.self c.args.moment c.visit-visited.ensures.kept c.requires.ready (c.visit-visited.ensures.whole c.requires.ready.whole)

@@ -21,10 +21,10 @@ returns-in-Some-clause-made g c =
 pub returns-in-None-clause-made : goal.returns-in-None-clause-made
 returns-in-None-clause-made g c =
     let p = c.args.self.now in
-    plain_folder p c.make_folder.new.self c.args.place.folder c.args.place.name.now c.args.owner c.args.moment c.requires.whole.sound.counted c.requires.folder c.make_folder.ensures.made c.make_folder.ensures.kept
+    plain_folder p c.make_folder.new.self c.args.place.folder c.args.place.name.now c.args.owner c.args.moment c.requires.ready.whole.sound.counted c.requires.folder c.make_folder.ensures.made c.make_folder.ensures.kept
     ∙ ap (λ (o : Option ℕ). with_folder p c.args.place.folder c.args.place.name.now c.args.owner c.args.moment (from_source p.templates.templates (fresh p.tree.nodes) Complete c.args.moment o)) (sym c.in-None.is)
 
 pub returns-in-None-clause-counted : goal.returns-in-None-clause-counted
 returns-in-None-clause-counted g c =
     let p = c.args.self.now in
-    idle_made p.tree c.make_folder.new.self p.objects.quotas p.usage _ _ c.args.owner c.args.moment c.requires.whole.sound.counted c.requires.folder c.make_folder.ensures.made c.make_folder.ensures.kept
+    idle_made p.tree c.make_folder.new.self p.objects.quotas p.usage _ _ c.args.owner c.args.moment c.requires.ready.whole.sound.counted c.requires.folder c.make_folder.ensures.made c.make_folder.ensures.kept

@@ -11,4 +11,4 @@ unwrap-template-requires c =
 
 pub threshold_texts-requires : goal.threshold_texts-requires
 threshold_texts-requires c =
-    omega (arith, template_few c.args.self.now c.args.template c.unwrap-template.result.now c.requires.whole (sym c.template.ensures ∙ ap option_copied c.unwrap-template.ensures))
+    omega (arith, template_few c.args.self.now c.args.template c.unwrap-template.result.now c.requires.store (sym c.template.ensures ∙ ap option_copied c.unwrap-template.ensures))

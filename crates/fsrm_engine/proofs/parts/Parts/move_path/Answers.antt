@@ -5,12 +5,11 @@ use Rattle.fsrm_model.proofs.valid.ValidLaws.{folder_has}
 use Rattle.fsrm_engine.proofs.coming.CarriedLaws.{judged_is, moved_old, quota_due, screen_due, source_due, to_it}
 use Rattle.fsrm_engine.proofs.coming.MemoryLaws.{err_with, moved_wants, on_err}
 use Rattle.fsrm_engine.proofs.coming.SourceLaws.{source_bare}
-use Rattle.fsrm_engine.proofs.judging.JudgedLaws.{few_at, told_one}
+use Rattle.fsrm_engine.proofs.judging.JudgedLaws.{told_one}
 use Rattle.fsrm_engine.proofs.judging.NameLaws.{block_sound, blocked_op}
 use Rattle.fsrm_engine.proofs.operations.ChargedLaws.{refused_op}
 use Rattle.fsrm_engine.proofs.operations.FollowLaws.{move_nodes}
 use Rattle.fsrm_engine.proofs.operations.MoveKept.{from_height, move_change, move_changes, move_fits, move_room, parent_there}
-use Rattle.fsrm_engine.proofs.settling.EndLaws.{few_log}
 use Rattle.fsrm_engine.proofs.settling.RefuseLaws.{refused_sound, refuser_there}
 use Rattle.fsrm_engine.proofs.steps.PlaceLaws.{has_resolved, place_depth}
 use Rattle.fsrm_engine.proofs.steps.StepLaws.{refused_as}
@@ -37,9 +36,6 @@ block-requires-clause-there g c =
     let judged = c.judge_moved-judged.result in
     let j = judged_is p c.requires.ready.whole c.args.moment c.args.from.now c.args.to.now c.in-Ok.found.0 c.in-Ok.ensures.ok c.moved_source-source.result c.moved_source-source.ensures judged c.judge_moved-judged.ensures.judged in
     told_one p judged c.in-Some.active j.there c.in-Some.ensures.0
-
-pub block-requires-clause-few : goal.block-requires-clause-few
-block-requires-clause-few g c = λ screen found. few_at c.args.self.now c.in-Some.active.screen screen c.requires.ready.whole found
 
 pub returns-in-Some-clause-ok : goal.returns-in-Some-clause-ok
 returns-in-Some-clause-ok g c =
@@ -92,9 +88,6 @@ pub refuse-requires-clause-there : goal.refuse-requires-clause-there
 refuse-requires-clause-there g c =
     let v = c.in-Ok.found.0 in
     refuser_there c.args.self.now (move_change v.parent v.place.folder c.in_ok-bytes.bytes) c.in-Err-admit.exceeded c.requires.ready.whole.sound.counted c.in-Err-admit.ensures.err
-
-pub refuse-requires-clause-log : goal.refuse-requires-clause-log
-refuse-requires-clause-log g c = few_log c.args.self.now c.requires.ready.whole
 
 pub returns-in-Err-admit-clause-ok : goal.returns-in-Err-admit-clause-ok
 returns-in-Err-admit-clause-ok g c =

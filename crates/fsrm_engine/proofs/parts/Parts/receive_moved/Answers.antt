@@ -12,7 +12,7 @@ use Rattle.fsrm_engine.proofs.parts.Parts.receive_moved.Goals as goal
 pub returns-in_default-clause-received : goal.returns-in_default-clause-received
 returns-in_default-clause-received g c =
     let p = c.args.self.now in
-    subst (λ (o : Option ℕ). Receives p p (from_source p.templates.templates c.args.node (start p.tree.nodes c.args.node) c.args.moment o)) (sym c.in_default.is) (none_comes p c.requires.whole.sound)
+    subst (λ (o : Option ℕ). Receives p p (from_source p.templates.templates c.args.node (start p.tree.nodes c.args.node) c.args.moment o)) (sym c.in_default.is) (none_comes p c.requires.ready.whole.sound)
 
 pub derived_row-requires-clause-there : goal.derived_row-requires-clause-there
 derived_row-requires-clause-there g c =
@@ -28,16 +28,16 @@ enlist-requires g c =
     let there = subst (λ (o : Option ℕ). IfSome o (λ n. has_row template_number n p.templates.templates ≡ true)) c.in-Some.is c.requires.there in
     let may = subst (λ (o : Option ℕ). source_fault p o ≡ None) c.in-Some.is c.requires.may in
     let row = c.in_ok-row.row in
-    let is = one_coming p c.requires.whole c.args.node c.in-Some.template c.args.moment there row c.in_ok-row.ensures.row (c.requires.kind some) (c.requires.absent some) may c.requires.moment in
+    let is = one_coming p c.requires.ready.whole c.args.node c.in-Some.template c.args.moment there row c.in_ok-row.ensures.row (c.requires.kind some) (c.requires.absent some) may c.requires.ready.in_range in
     record {
-      sound = c.requires.whole.sound;
+      sound = c.requires.ready.whole.sound;
       folder = is.folder;
       limit = is.limit;
       ascending = percents_ascend row.thresholds is.thresholds;
       thresholds = each_threshold row.thresholds is.thresholds;
       moment = is.moment;
       nothing = is.unused;
-      waits = few_scans p.objects.quotas p.scans.queue c.requires.whole.valid.queue;
+      waits = few_scans p.objects.quotas p.scans.queue c.requires.ready.whole.valid.queue;
     }
 
 pub returns-clause-received : goal.returns-clause-received
@@ -45,4 +45,4 @@ returns-clause-received g c =
     let p = c.args.self.now in
     let there = subst (λ (o : Option ℕ). IfSome o (λ n. has_row template_number n p.templates.templates ≡ true)) c.in-Some.is c.requires.there in
     subst (λ (o : Option ℕ). Receives p c.enlist.new.self (from_source p.templates.templates c.args.node (start p.tree.nodes c.args.node) c.args.moment o)) (sym c.in-Some.is)
-    (one_comes p c.requires.whole c.args.node c.in-Some.template c.args.moment there c.in_ok-row.row c.in_ok-row.ensures.row c.enlist.new.self c.in-Ok.ensures.listed)
+    (one_comes p c.requires.ready.whole c.args.node c.in-Some.template c.args.moment there c.in_ok-row.row c.in_ok-row.ensures.row c.enlist.new.self c.in-Ok.ensures.listed)

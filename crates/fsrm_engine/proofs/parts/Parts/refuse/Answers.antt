@@ -4,6 +4,7 @@ use Rattle.thresholds.specs.Settled.{due_in}
 use Rattle.fsrm_engine.specs.Due.{refused_acts}
 use Rattle.fsrm_engine.specs.Faults.{refused_answer}
 use Rattle.fsrm_engine.specs.Machine.{Ran}
+use Rattle.fsrm_engine.proofs.settling.EndLaws.{few_log}
 use Rattle.fsrm_engine.proofs.settling.RefuseLaws.{leaves_none, leaves_some, numbers_tell, some_ran}
 use Rattle.fsrm_engine.proofs.parts.Parts.refuse.Goals as goal
 
@@ -16,8 +17,8 @@ returns-then-is_empty-clause-refused c =
     record {
       run = run;
       ran = ran;
-      leaves = leaves_none p run c.args.moment c.args.exceeded acts c.refused.result c.requires.idle c.requires.log ran
-          (numbers_tell p run c.args.moment acts c.is_empty.result c.requires.idle ran c.is_empty.ensures ∙ c.if-is_empty.true) (c.refused.ensures ∙ ap refused_answer c.exceeded_by-refusal.ensures);
+      leaves = leaves_none p run c.args.moment c.args.exceeded acts c.refused.result c.requires.ready.idle (few_log p c.requires.ready.whole) ran
+          (numbers_tell p run c.args.moment acts c.is_empty.result c.requires.ready.idle ran c.is_empty.ensures ∙ c.if-is_empty.true) (c.refused.ensures ∙ ap refused_answer c.exceeded_by-refusal.ensures);
     }
 
 pub returns-clause-refused : goal.returns-clause-refused
@@ -30,6 +31,6 @@ returns-clause-refused c =
       run = run;
       ran = ran;
       leaves = leaves_some p run c.end.new.self c.args.moment c.args.exceeded acts _
-          (some_ran p run c.args.moment acts c.requires.idle ran (numbers_tell p run c.args.moment acts c.is_empty.result c.requires.idle ran c.is_empty.ensures ∙ c.if-is_empty.false))
+          (some_ran p run c.args.moment acts c.requires.ready.idle ran (numbers_tell p run c.args.moment acts c.is_empty.result c.requires.ready.idle ran c.is_empty.ensures ∙ c.if-is_empty.false))
           c.end.ensures.ended (ap (λ refusal. record { outcome = Refused refusal; lasting = true }) c.exceeded_by-refusal.ensures);
     }

@@ -59,9 +59,6 @@ pub refuse-requires-clause-there : goal.refuse-requires-clause-there
 refuse-requires-clause-there g c =
     refuser_there c.args.self.now (record { from = Some c.in-Some.file.parent; to = Some c.in-Some.file.parent; minus = c.allocated.result; plus = c.allocated-2.result }) c.in-Err.exceeded c.requires.ready.whole.sound.counted c.in-Err.ensures.err
 
-pub refuse-requires-clause-log : goal.refuse-requires-clause-log
-refuse-requires-clause-log g c = few_log c.args.self.now c.requires.ready.whole
-
 pub returns-in-Err-clause-looks : goal.returns-in-Err-clause-looks
 returns-in-Err-clause-looks g c =
     let v = c.args.self.now.tree in

@@ -22,7 +22,7 @@ pub delete-requires : goal.delete-requires
 delete-requires c =
     let p = c.args.self.now in
     let is : template_named p.templates.templates c.args.name.now ≡ Some c.in-Some.template.now = sym c.template_named.ensures ∙ ap option_copied c.in-Some.is in
-    named_there p c.args.name.now c.in-Some.template.now c.requires.ready.whole is
+    named_there p c.args.name.now c.in-Some.template.now c.requires.ready.whole.valid is
 
 pub returns-in_default-delete-clause-ok : goal.returns-in_default-delete-clause-ok
 returns-in_default-delete-clause-ok c =

@@ -40,7 +40,7 @@ retemplated-requires c =
     let p = c.args.self.now in
     let t = c.in-Some.template.now in
     let is : template_named p.templates.templates c.args.change.now.name ≡ Some t = sym c.template_named.ensures ∙ ap option_copied c.in-Some.is in
-    percents_ascend t.thresholds (template_parts t (named_legal p c.args.change.now.name t c.requires.ready.whole is)).thresholds
+    percents_ascend t.thresholds (template_parts t (named_legal p c.args.change.now.name t c.requires.ready.whole.valid is)).thresholds
 
 pub modify-requires-clause-named : goal.modify-requires-clause-named
 modify-requires-clause-named c =
@@ -57,7 +57,7 @@ modify-requires-clause-valid c =
     let change = c.args.change.now in
     let is : template_named p.templates.templates c.args.change.now.name ≡ Some t = sym c.template_named.ensures ∙ ap option_copied c.in-Some.is in
     let few : are_too_many c.in_ok-row.row.thresholds ≡ false = sym c.are_too_many.ensures ∙ c.if-are_too_many.false in
-    retemplated_legal change t c.in_ok-row.row (template_change_parts change c.requires.valid) c.in_ok-row.ensures few (named_legal p c.args.change.now.name t c.requires.ready.whole is)
+    retemplated_legal change t c.in_ok-row.row (template_change_parts change c.requires.valid) c.in_ok-row.ensures few (named_legal p c.args.change.now.name t c.requires.ready.whole.valid is)
 
 pub settle_reached-requires : goal.settle_reached-requires
 settle_reached-requires c =
@@ -68,7 +68,7 @@ settle_reached-requires c =
     let row = c.in_ok-row.row in
     let is : template_named p.templates.templates c.args.change.now.name ≡ Some t = sym c.template_named.ensures ∙ ap option_copied c.in-Some.is in
     let few : are_too_many row.thresholds ≡ false = sym c.are_too_many.ensures ∙ c.if-are_too_many.false in
-    let legal = retemplated_legal change t row (template_change_parts change c.requires.valid) c.in_ok-row.ensures few (named_legal p c.args.change.now.name t w is) in
+    let legal = retemplated_legal change t row (template_change_parts change c.requires.valid) c.in_ok-row.ensures few (named_legal p c.args.change.now.name t w.valid is) in
     let mid = mid_is p c.args.moment change t is w row c.in_ok-row.ensures c.modify.new.self c.modify.new.objects c.in-Ok.ensures.ok c.in-Ok.ensures.quotas in
     let are = reached_rows p c.args.moment change t is w row c.in_ok-row.ensures c.in-Ok.reached c.in-Ok.ensures.reached in
     record {
@@ -89,7 +89,7 @@ returns-in-Ok-clause-ok c =
     let row = c.in_ok-row.row in
     let is : template_named p.templates.templates c.args.change.now.name ≡ Some t = sym c.template_named.ensures ∙ ap option_copied c.in-Some.is in
     let few : are_too_many row.thresholds ≡ false = sym c.are_too_many.ensures ∙ c.if-are_too_many.false in
-    let legal = retemplated_legal change t row (template_change_parts change c.requires.valid) c.in_ok-row.ensures few (named_legal p c.args.change.now.name t w is) in
+    let legal = retemplated_legal change t row (template_change_parts change c.requires.valid) c.in_ok-row.ensures few (named_legal p c.args.change.now.name t w.valid is) in
     let may : may_be_removed change.removed t.thresholds ≡ true = may_is c.as_slice.result.now change.removed c.as_slice-2.result.now t.thresholds c.as_slice.ensures c.as_slice-2.ensures ∙ (sym c.may_be_removed.ensures ∙ c.if-not-may_be_removed.false) in
     let due_is = modify_due p c.args.moment change t is w row c.in_ok-row.ensures c.room-room.result c.room-room.ensures may few in
     let mid = mid_is p c.args.moment change t is w row c.in_ok-row.ensures c.modify.new.self c.modify.new.objects c.in-Ok.ensures.ok c.in-Ok.ensures.quotas in
