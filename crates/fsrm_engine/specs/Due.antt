@@ -45,6 +45,12 @@ abbrev pub updated_acts : Tables → List Counter → ℕ → ℕ → QuotaRow �
 updated_acts tables counters run_limit moment row =
     due_in tables (Some row) (used_in counters row.folder) (used_in counters row.folder) run_limit moment row.folder
 
+-- actions may come to run at this moment: the counters are the sums, no action waits, and the moment is in range
+pub record MaySettle (parts : Parts) (moment : ℕ) : Type 0 where
+  pub counted : AreCounted parts
+  pub idle : IsIdle parts
+  pub in_range : moment ≤ latest_moment
+
 -- what a refusal leaves: nothing, or, if acts ran, that
 abbrev pub LeavesActs : List Act → Parts → Parts → Parts → ℕ → Exceeded → Answer → Type 0
 LeavesActs [] old run new moment exceeded answer = (new ≡ old) × (answer ≡ refused_answer (exceeded_refusal exceeded))

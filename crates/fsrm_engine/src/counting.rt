@@ -5,7 +5,7 @@ ghost use Rattle.std.specs.List.{list_all};
 ghost use Rattle.fsrm_model.specs.declared.row.QuotaRow.{QuotaRow};
 ghost use Rattle.fsrm_model.specs.declared.row.QuotaState.TheVariants.{Rebuilding};
 ghost use Rattle.fsrm_base.specs.Keyed.{has_row, is_ascending, row_of, with_row, with_change, without_row};
-ghost use Rattle.fsrm_model.specs.values.Limits.{latest_moment, most_quotas};
+ghost use Rattle.fsrm_model.specs.values.Limits.{most_quotas};
 ghost use Rattle.fsrm_model.specs.objects.Quota.{folder_of, counts, is_limit};
 ghost use Rattle.fsrm_model.specs.objects.QuotaStates.{in_state};
 ghost use Rattle.fsrm_model.specs.objects.Thresholds.{are_thresholds, is_threshold, percent_of};
@@ -13,9 +13,9 @@ ghost use Rattle.fsrm_model.specs.nodes.Tree.{is_folder, usage};
 ghost use Rattle.fsrm_model.specs.store.Valid.{is_moment};
 ghost use Rattle.fsrm_objects.specs.Tables.{IsFault, other_fault, quota_fault};
 ghost use Rattle.quota_usage.specs.Counters.{counted, with_counter, without_counter};
-ghost use Rattle.fsrm_engine.specs.Due.{Completes};
+ghost use Rattle.fsrm_engine.specs.Due.{Completes, MaySettle};
 ghost use Rattle.fsrm_engine.specs.Faults.{text_room};
-ghost use Rattle.fsrm_engine.specs.Machine.{AreCounted, IsIdle, recounted};
+ghost use Rattle.fsrm_engine.specs.Machine.{AreCounted, recounted};
 
 use crate::charging::{drop_quota, end_count, raise_peak};
 use crate::parts::Parts;
@@ -125,12 +125,10 @@ impl Parts {
     /// A folder's quota, which didn't count, counts from now on, beginning with what is used. That ends the command:
     /// the quota's peak may rise, the actions run of the thresholds that it reaches, and the moment is the last one.
     pub(crate) fn complete(&mut self, folder: u32, used: u64, moment: u64)
-        requires counted { AreCounted self.old }
-        requires idle { IsIdle self.old }
+        requires may { MaySettle self.old moment }
         requires there { has_row folder_of folder self.old.objects.quotas ≡ true }
         requires uncounted { (quota : QuotaRow) → row_of folder_of folder self.old.objects.quotas ≡ Some quota → counts quota ≡ false }
         requires used { used ≡ usage self.old.tree.size self.old.tree.nodes folder }
-        requires moment { moment ≤ latest_moment }
         ensures completed { Completes self.old self.new folder moment }
         ensures counted { AreCounted self.new }
     {

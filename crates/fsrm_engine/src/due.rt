@@ -4,14 +4,15 @@ ghost use Rattle.std.specs.Prelude.{◌≡◌, ℕ, ◌<◌, ◌≤◌, true, le
 ghost use Rattle.std.specs.Option.{option_copied};
 ghost use Rattle.fsrm_base.specs.Keyed.{has_row};
 ghost use Rattle.fsrm_base.specs.Numbers.{is_in, is_set};
-ghost use Rattle.fsrm_model.specs.values.Limits.{latest_moment, most_entries};
+ghost use Rattle.fsrm_model.specs.values.Limits.{most_entries};
 ghost use Rattle.fsrm_model.specs.objects.Quota.{folder_of};
 ghost use Rattle.number_set.specs.Numbers.{no_numbers};
 ghost use Rattle.quota_usage.specs.Counters.{used_in};
 ghost use Rattle.thresholds.specs.Marked.{are_there};
 ghost use Rattle.thresholds.specs.Settled.{Settles, are_orderly, due_in};
 ghost use Rattle.fsrm_engine.specs.Crossing.{acts_at, gained_acts};
-ghost use Rattle.fsrm_engine.specs.Machine.{AreCounted, IsIdle, Ran};
+ghost use Rattle.fsrm_engine.specs.Due.{MaySettle};
+ghost use Rattle.fsrm_engine.specs.Machine.{AreCounted, Ran};
 
 use crate::charging::used_before;
 use crate::parts::Parts;
@@ -62,10 +63,8 @@ impl Parts {
         now: Option<u64>,
         moment: u64,
     )
-        requires counted { AreCounted self.old }
+        requires may { MaySettle self.old moment }
         requires there { has_row folder_of folder self.old.objects.quotas ≡ true }
-        requires idle { IsIdle self.old }
-        requires moment { moment ≤ latest_moment }
         ensures settled { Ran self.old self.new moment (due_in self.old.objects (option_copied before.entry) used now self.old.run_limit moment folder) }
         ensures counted { AreCounted self.new }
     {
@@ -89,10 +88,8 @@ impl Parts {
         used: Option<u64>,
         moment: u64,
     )
-        requires counted { AreCounted self.old }
+        requires may { MaySettle self.old moment }
         requires there { has_row folder_of folder self.old.objects.quotas ≡ true }
-        requires idle { IsIdle self.old }
-        requires moment { moment ≤ latest_moment }
         ensures settled { Ran self.old self.new moment (due_in self.old.objects (option_copied before.entry) used (used_in self.old.usage folder) self.old.run_limit moment folder) }
         ensures counted { AreCounted self.new }
     {

@@ -4,12 +4,12 @@ ghost use Rattle.std.specs.Prelude.{◌≡◌, ◌≤◌, true, flat_map, length
 ghost use Rattle.std.specs.List.{list_all};
 ghost use Rattle.fsrm_base.specs.Keyed.{has_row, is_ascending};
 ghost use Rattle.fsrm_base.specs.Numbers.{is_set};
-ghost use Rattle.fsrm_model.specs.values.Limits.{latest_moment, most_entries};
+ghost use Rattle.fsrm_model.specs.values.Limits.{most_entries};
 ghost use Rattle.fsrm_model.specs.objects.Quota.{folder_of};
 ghost use Rattle.thresholds.specs.Marked.{are_there};
 ghost use Rattle.thresholds.specs.Settled.{Settles, are_orderly};
-ghost use Rattle.fsrm_engine.specs.Due.{updated_acts};
-ghost use Rattle.fsrm_engine.specs.Machine.{AreCounted, IsIdle, Ran};
+ghost use Rattle.fsrm_engine.specs.Due.{MaySettle, updated_acts};
+ghost use Rattle.fsrm_engine.specs.Machine.{AreCounted, Ran};
 
 use crate::parts::Parts;
 use fsrm_model::{List, QuotaRow};
@@ -52,10 +52,8 @@ fn settle_rows(
 impl Parts {
     /// Has the actions run that are due of quotas that had these rows before a template's change.
     pub(crate) fn settle_reached(&mut self, before: &List<QuotaRow>, moment: u64)
-        requires counted { AreCounted self.old }
-        requires idle { IsIdle self.old }
+        requires may { MaySettle self.old moment }
         requires log { length self.old.marks.log ≤ most_entries }
-        requires moment { moment ≤ latest_moment }
         requires there { list_all (λ row. has_row folder_of row.folder self.old.objects.quotas) before.now ≡ true }
         requires ascending { is_ascending folder_of before.now ≡ true }
         ensures settled { Ran self.old self.new moment (flat_map (updated_acts self.old.objects self.old.usage self.old.run_limit moment) before.now) }

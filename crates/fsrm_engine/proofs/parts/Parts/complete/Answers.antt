@@ -17,24 +17,29 @@ pub begin-requires-clause-free : goal.begin-requires-clause-free
 begin-requires-clause-free c =
     let p = c.args.self.now in
     let f = has_found folder_of c.args.folder p.objects.quotas c.requires.there in
-    has_counter p.tree.size p.tree.nodes p.objects.quotas p.usage c.args.folder f.row c.requires.counted f.is ∙ c.requires.uncounted f.row f.is
+    has_counter p.tree.size p.tree.nodes p.objects.quotas p.usage c.args.folder f.row c.requires.may.counted f.is ∙ c.requires.uncounted f.row f.is
 
 pub begin-requires-clause-room : goal.begin-requires-clause-room
 begin-requires-clause-room c =
     let p = c.args.self.now in
-    room_for p.tree.size p.tree.nodes p.objects.quotas p.usage c.args.folder c.requires.counted c.requires.there (begin-requires-clause-free c)
+    room_for p.tree.size p.tree.nodes p.objects.quotas p.usage c.args.folder c.requires.may.counted c.requires.there (begin-requires-clause-free c)
 
 pub raise_peak-requires : goal.raise_peak-requires
 raise_peak-requires c =
     let p = c.args.self.now in
     ap (λ (t : Tables). is_ascending folder_of t.quotas) c.set_state.ensures
-    ∙ (completed_are p.tree.size p.tree.nodes p.objects.quotas c.args.folder c.requires.counted.are_quotas).ascending
+    ∙ (completed_are p.tree.size p.tree.nodes p.objects.quotas c.args.folder c.requires.may.counted.are_quotas).ascending
 
-pub settle_quota-requires-clause-counted : goal.settle_quota-requires-clause-counted
-settle_quota-requires-clause-counted c =
+pub settle_quota-requires-clause-may : goal.settle_quota-requires-clause-may
+settle_quota-requires-clause-may c =
     let p = c.args.self.now in
-    (completes p.tree.size p.tree.nodes p.objects.quotas c.set_state.new.self.quotas c.raise_peak.new.objects.quotas p.usage c.begin.new.self c.args.moment c.args.folder c.args.used c.requires.counted c.requires.moment
-    c.requires.there c.requires.uncounted c.requires.used c.begin.ensures (ap (λ (t : Tables). t.quotas) c.set_state.ensures) (ap (λ (t : Tables). t.quotas) c.raise_peak.ensures)).engine
+    let done = completes p.tree.size p.tree.nodes p.objects.quotas c.set_state.new.self.quotas c.raise_peak.new.objects.quotas p.usage c.begin.new.self c.args.moment c.args.folder c.args.used c.requires.may.counted c.requires.may.in_range
+    c.requires.there c.requires.uncounted c.requires.used c.begin.ensures (ap (λ (t : Tables). t.quotas) c.set_state.ensures) (ap (λ (t : Tables). t.quotas) c.raise_peak.ensures) in
+    record {
+      counted = done.engine;
+      idle = record { numbers = c.requires.may.idle.numbers; places = c.requires.may.idle.places; crossing = c.requires.may.idle.crossing };
+      in_range = c.requires.may.in_range;
+    }
 
 pub settle_quota-requires-clause-there : goal.settle_quota-requires-clause-there
 settle_quota-requires-clause-there c =
@@ -42,14 +47,11 @@ settle_quota-requires-clause-there c =
     ∙ (has_row-change folder_of c.args.folder (raised c.begin.new.self c.args.moment) (raised_keeps c.begin.new.self c.args.moment) c.args.folder _
     ∙ (has_row-change folder_of c.args.folder (in_state Complete) (λ r. refl) c.args.folder c.args.self.now.objects.quotas ∙ c.requires.there))
 
-pub settle_quota-requires-clause-idle : goal.settle_quota-requires-clause-idle
-settle_quota-requires-clause-idle c = record { numbers = c.requires.idle.numbers; places = c.requires.idle.places; crossing = c.requires.idle.crossing }
-
 pub returns-clause-completed : goal.returns-clause-completed
 returns-clause-completed c =
     let p = c.args.self.now in
     let after = with_complete c.args.folder p.objects.quotas in
-    let done = completes p.tree.size p.tree.nodes p.objects.quotas c.set_state.new.self.quotas c.raise_peak.new.objects.quotas p.usage c.begin.new.self c.args.moment c.args.folder c.args.used c.requires.counted c.requires.moment
+    let done = completes p.tree.size p.tree.nodes p.objects.quotas c.set_state.new.self.quotas c.raise_peak.new.objects.quotas p.usage c.begin.new.self c.args.moment c.args.folder c.args.used c.requires.may.counted c.requires.may.in_range
     c.requires.there c.requires.uncounted c.requires.used c.begin.ensures (ap (λ (t : Tables). t.quotas) c.set_state.ensures) (ap (λ (t : Tables). t.quotas) c.raise_peak.ensures) in
     let objects = c.raise_peak.ensures ∙ ap (λ (t : Tables). record t { quotas = with_change folder_of c.args.folder (raised c.begin.new.self c.args.moment) t.quotas }) c.set_state.ensures in
     record {

@@ -23,8 +23,13 @@ returns-clause-used c =
     c.finish-used.ensures.used p.tree c.requires.ready.whole.sound.scanning
     ∙ ap (λ o. usage p.tree.size p.tree.nodes (unwrap_or o 0)) c.requires.active
 
-pub complete-requires-clause-idle : goal.complete-requires-clause-idle
-complete-requires-clause-idle c = record { numbers = c.requires.ready.idle.numbers; places = c.requires.ready.idle.places; crossing = c.requires.ready.idle.crossing }
+pub complete-requires-clause-may : goal.complete-requires-clause-may
+complete-requires-clause-may c =
+    record {
+      counted = c.requires.ready.whole.sound.counted;
+      idle = record { numbers = c.requires.ready.idle.numbers; places = c.requires.ready.idle.places; crossing = c.requires.ready.idle.crossing };
+      in_range = c.requires.ready.in_range;
+    }
 
 pub returns-clause-finished : goal.returns-clause-finished
 returns-clause-finished c =

@@ -42,8 +42,13 @@ complete-requires-clause-uncounted g c quota found =
     let u = unfinished p.objects.quotas c.args.folder _ refl (sym c.is_unfinished.ensures ∙ c.if-not-is_unfinished.false) in
     subst (λ (q : QuotaRow). counts q ≡ false) (same_Some u.row quota (sym u.found ∙ found)) u.uncounted
 
-pub complete-requires-clause-idle : goal.complete-requires-clause-idle
-complete-requires-clause-idle g c = record { numbers = c.requires.may.idle.numbers; places = c.requires.may.idle.places; crossing = c.requires.may.idle.crossing }
+pub complete-requires-clause-may : goal.complete-requires-clause-may
+complete-requires-clause-may g c =
+    record {
+      counted = c.requires.may.sound.counted;
+      idle = record { numbers = c.requires.may.idle.numbers; places = c.requires.may.idle.places; crossing = c.requires.may.idle.crossing };
+      in_range = c.requires.may.in_range;
+    }
 
 pub returns-clause-size : goal.returns-clause-size
 returns-clause-size g c =

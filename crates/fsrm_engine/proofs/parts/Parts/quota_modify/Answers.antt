@@ -1,4 +1,4 @@
-use Rattle.std.proofs.Common.{◌≡◌, ℕ, List, true, ap, sym, ◌∙◌}
+use Rattle.std.proofs.Common.{◌≡◌, ℕ, List, true, ap, sym, ◌∙◌, subst}
 use Rattle.std.specs.Option.{option_and_then}
 use Rattle.fsrm_base.specs.Keyed.{is_ascending}
 use Rattle.fsrm_model.specs.declared.command.Deed.TheVariants.{Quota}
@@ -9,7 +9,7 @@ use Rattle.fsrm_model.specs.objects.QuotaStates.{in_state, state_after}
 use Rattle.fsrm_model.specs.objects.Thresholds.{may_be_removed, percent_of}
 use Rattle.fsrm_model.proofs.commands.ValueParts.{quota_change_parts}
 use Rattle.fsrm_engine.specs.Faults.{table_refusal, text_room}
-use Rattle.fsrm_engine.specs.Machine.{rows_of}
+use Rattle.fsrm_engine.specs.Machine.{IsIdle, rows_of}
 use Rattle.fsrm_engine.proofs.coming.MemoryLaws.{folder_wants, on_err}
 use Rattle.fsrm_engine.proofs.steps.StepLaws.{refused_as}
 use Rattle.fsrm_engine.proofs.tables.ModifyLaws.{changed_legal, changed_row, changed_still, changed_there, changed_unused, changed_whole, modified_as, ran_by}
@@ -87,6 +87,14 @@ replace-requires-clause-nothing g c old found was t =
     changed_unused change c.in-Ok.quota.now c.in_ok-before.before c.in_ok-row.row c.in_ok-before.ensures c.in_ok-row.ensures
     p c.state_after-row.result change.enabled old c.requires.ready.whole.sound.counted.volume c.in-Ok.ensures.ok.at.folder
     (c.state_after-row.ensures.state ∙ ap (λ (r : QuotaRow). state_after (rows_of p) r.folder change.enabled) c.in_ok-before.ensures) found was t
+
+pub settle_quota-requires-clause-may : goal.settle_quota-requires-clause-may
+settle_quota-requires-clause-may g c =
+    record {
+      counted = c.replace.ensures.sound.counted;
+      idle = subst IsIdle (sym c.replace.ensures.replaced.parts_are) (record { numbers = c.requires.ready.idle.numbers; places = c.requires.ready.idle.places; crossing = c.requires.ready.idle.crossing });
+      in_range = c.requires.ready.in_range;
+    }
 
 pub settle_quota-requires-clause-there : goal.settle_quota-requires-clause-there
 settle_quota-requires-clause-there g c =

@@ -8,6 +8,9 @@ use Rattle.fsrm_engine.proofs.settling.EndLaws.{few_log}
 use Rattle.fsrm_engine.proofs.settling.RefuseLaws.{leaves_none, leaves_some, numbers_tell, some_ran}
 use Rattle.fsrm_engine.proofs.parts.Parts.refuse.Goals as goal
 
+pub settle_used-requires-clause-may : goal.settle_used-requires-clause-may
+settle_used-requires-clause-may c = record { counted = c.requires.ready.whole.sound.counted; idle = c.requires.ready.idle; in_range = c.requires.ready.in_range }
+
 pub returns-then-is_empty-clause-refused : goal.returns-then-is_empty-clause-refused
 returns-then-is_empty-clause-refused c =
     let p = c.args.self.now in

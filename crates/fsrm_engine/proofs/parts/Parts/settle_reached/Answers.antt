@@ -15,9 +15,9 @@ pub settle_rows-requires : goal.settle_rows-requires
 settle_rows-requires c =
     let p = c.args.self.now in
     record {
-      orderly = quotas_orderly p.tree.nodes p.objects.quotas c.requires.counted.are_quotas;
-      marked = calm_there p (calm_of p c.requires.idle);
-      sorted = calm_set p (calm_of p c.requires.idle);
+      orderly = quotas_orderly p.tree.nodes p.objects.quotas c.requires.may.counted.are_quotas;
+      marked = calm_there p (calm_of p c.requires.may.idle);
+      sorted = calm_set p (calm_of p c.requires.may.idle);
       log = c.requires.log;
       there = ap (list_all (λ (row : QuotaRow). has_row folder_of row.folder p.objects.quotas)) c.as_slice.ensures ∙ c.requires.there;
       ascending = ap (is_ascending folder_of) c.as_slice.ensures ∙ c.requires.ascending;
@@ -33,4 +33,4 @@ returns-clause-settled c =
     }
 
 pub returns-clause-counted : goal.returns-clause-counted
-returns-clause-counted c = counted_run c.args.self.now _ c.args.moment _ c.requires.moment c.requires.counted (returns-clause-settled c)
+returns-clause-counted c = counted_run c.args.self.now _ c.args.moment _ c.requires.may.in_range c.requires.may.counted (returns-clause-settled c)

@@ -72,10 +72,12 @@ settle_reached-requires c =
     let mid = mid_is p c.args.moment change t is w row c.in_ok-row.ensures c.modify.new.self c.modify.new.objects c.in-Ok.ensures.ok c.in-Ok.ensures.quotas in
     let are = reached_rows p c.args.moment change t is w row c.in_ok-row.ensures c.in-Ok.reached c.in-Ok.ensures.reached in
     record {
-      counted = subst AreCounted (sym mid) (modified_counted p c.args.moment change t is w row c.in_ok-row.ensures legal);
-      idle = subst IsIdle (sym mid) (record { numbers = c.requires.ready.idle.numbers; places = c.requires.ready.idle.places; crossing = c.requires.ready.idle.crossing });
+      may = record {
+        counted = subst AreCounted (sym mid) (modified_counted p c.args.moment change t is w row c.in_ok-row.ensures legal);
+        idle = subst IsIdle (sym mid) (record { numbers = c.requires.ready.idle.numbers; places = c.requires.ready.idle.places; crossing = c.requires.ready.idle.crossing });
+        in_range = c.requires.ready.in_range;
+      };
       log = few_log p w;
-      moment = c.requires.ready.in_range;
       there = (subst (λ (q : Parts). ReachedRows c.in-Ok.reached q.objects.quotas) (sym mid) are).there;
       ascending = are.ascending;
     }
