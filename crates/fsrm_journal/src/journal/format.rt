@@ -24,7 +24,7 @@ impl Journal {
     /// come uncounted.
     pub fn format<D: Disk>(disk: &mut D, head: &Head, image: &[u8]) -> Result<(), JournalFault>
         requires legal { IsLegal head.now }
-        requires whole { head.now.image ≡ length image.now }
+        requires length { head.now.image ≡ length image.now }
         ensures tells { ForSome (D.reads disk.old) (λ parts. IsFormatted parts result) }
         ensures only { OnErr result ((result ≡ Err DiskFault) ⊎ (result ≡ Err AlreadyStore)) }
         ensures formatted { ForSome (D.reads disk.old) (λ parts. OnOk result ((now : Parts) × Certain D.reads D.disk_clock D.images now disk.new × IsMade head.now image.now parts now)) }

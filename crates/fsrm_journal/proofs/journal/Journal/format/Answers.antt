@@ -20,7 +20,7 @@ returns-in_err-write_half-clause-any_moment g c parts told =
     let M = g.met.D.Disk in
     let laws : DiskLaws g.D.Disk.disk_clock g.D.Disk.images g.D.Disk.by_disk = record { same = M.disk_same; then_by = M.disk_then; later = M.disk_later; past = M.disk_past } in
     let b = c.in_ok-close_both.ensures.closed parts (c.has_store.ensures.reads ∙ told) in
-    formats_then laws c.args.head.now c.args.image.now (drop 1 parts.one) c.requires.legal c.requires.whole c.has_store.ensures.by c.close_both.ensures.by c.write_half.ensures.by
+    formats_then laws c.args.head.now c.args.image.now (drop 1 parts.one) c.requires.legal c.requires.length c.has_store.ensures.by c.close_both.ensures.by c.write_half.ensures.by
     c.has_store.ensures.crash c.close_both.ensures.crash c.close_both.ensures.soon (c.write_half.ensures.any_moment (0 ∷ drop 1 parts.one) b)
 
 pub returns-clause-any_moment : goal.returns-clause-any_moment
@@ -28,7 +28,7 @@ returns-clause-any_moment g c parts told =
     let M = g.met.D.Disk in
     let laws : DiskLaws g.D.Disk.disk_clock g.D.Disk.images g.D.Disk.by_disk = record { same = M.disk_same; then_by = M.disk_then; later = M.disk_later; past = M.disk_past } in
     let b = c.in_ok-close_both.ensures.closed parts (c.has_store.ensures.reads ∙ told) in
-    formats_then laws c.args.head.now c.args.image.now (drop 1 parts.one) c.requires.legal c.requires.whole c.has_store.ensures.by c.close_both.ensures.by c.write_half.ensures.by
+    formats_then laws c.args.head.now c.args.image.now (drop 1 parts.one) c.requires.legal c.requires.length c.has_store.ensures.by c.close_both.ensures.by c.write_half.ensures.by
     c.has_store.ensures.crash c.close_both.ensures.crash c.close_both.ensures.soon (c.write_half.ensures.any_moment (0 ∷ drop 1 parts.one) b)
 
 pub returns-clause-formatted : goal.returns-clause-formatted
@@ -37,4 +37,4 @@ returns-clause-formatted g c parts told =
     let image = c.args.image.now in
     let b = c.in_ok-close_both.ensures.closed parts (c.has_store.ensures.reads ∙ told) in
     let n = c.in_ok-write_half.ensures.opened (0 ∷ drop 1 parts.one) b in
-    (n.0, n.1, made head image n.2.rest parts n.0 c.requires.legal c.requires.whole n.2.split n.2.same)
+    (n.0, n.1, made head image n.2.rest parts n.0 c.requires.legal c.requires.length n.2.split n.2.same)
