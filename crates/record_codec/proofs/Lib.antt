@@ -1,0 +1,15 @@
+pub mod EntryLaws
+pub mod EntryWriting
+pub mod FieldLaws
+pub mod FileLaws
+pub mod FileWriting
+pub mod KindLaws
+pub mod Legal
+pub mod NoticeLaws
+pub mod PathText
+pub mod QuotaLaws
+pub mod QuotaWriting
+pub mod SettingLaws
+pub mod TemplateLaws
+pub mod TemplateWriting
+pub mod TypedLaws

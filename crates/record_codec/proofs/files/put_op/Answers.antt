@@ -1,0 +1,21 @@
+use Rattle.record_fields.proofs.WriterLaws.{writes_then}
+use Rattle.record_codec.proofs.files.put_op.Goals as goal
+
+pub returns-in-Mkdir-clause-written : goal.returns-in-Mkdir-clause-written
+returns-in-Mkdir-clause-written c = rw c.in-Mkdir.is (writes_then c.put_u8-at.ensures (writes_then c.put_path-at.ensures.written c.put_u64.ensures))
+
+pub returns-in-Create-clause-written : goal.returns-in-Create-clause-written
+returns-in-Create-clause-written c =
+    rw c.in-Create.is (writes_then c.put_u8-at-in-Create.ensures (writes_then c.put_path-at-in-Create.ensures.written (writes_then c.put_u64-at.ensures c.put_u64-in-Create.ensures)))
+
+pub returns-in-Resize-clause-written : goal.returns-in-Resize-clause-written
+returns-in-Resize-clause-written c = rw c.in-Resize.is (writes_then c.put_u8-at-in-Resize.ensures (writes_then c.put_path-at-in-Resize.ensures.written c.put_u64-in-Resize.ensures))
+
+pub returns-in-Touch-clause-written : goal.returns-in-Touch-clause-written
+returns-in-Touch-clause-written c = rw c.in-Touch.is (writes_then c.put_u8-at-in-Touch.ensures c.put_path.ensures.written)
+
+pub returns-in-Move-clause-written : goal.returns-in-Move-clause-written
+returns-in-Move-clause-written c = rw c.in-Move.is (writes_then c.put_u8-at-in-Move.ensures (writes_then c.put_path-at-in-Move.ensures.written c.put_path-in-Move.ensures.written))
+
+pub returns-in-Remove-clause-written : goal.returns-in-Remove-clause-written
+returns-in-Remove-clause-written c = rw c.in-Remove.is (writes_then c.put_u8-at-in-Remove.ensures c.put_path-in-Remove.ensures.written)

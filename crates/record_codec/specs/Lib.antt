@@ -1,0 +1,12 @@
+pub mod Decoding
+pub mod Entries
+pub mod Fields
+pub mod Files
+pub mod Kinds
+pub mod Notices
+pub mod Paths
+pub mod Quotas
+pub mod Settings
+pub mod Templates
+pub mod Typed
+pub mod Writing

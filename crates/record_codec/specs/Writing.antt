@@ -1,0 +1,42 @@
+-- Entries that are written: what they stand for, and which may be.
+use Rattle.std.specs.Prelude.{◌≡◌, ◌-◌, ◌^◌, nat_le, Bool, true, is_some}
+use Rattle.std.specs.List.{list_all}
+use Rattle.fsrm_model.specs.commands.Commands.{paths_of_op}
+use Rattle.fsrm_model.specs.declared.command.Deed.{Deed}
+use Rattle.fsrm_model.specs.declared.command.Deed.TheVariants.{File, Quota, Template}
+use Rattle.fsrm_model.specs.declared.command.Entry.{Entry}
+use Rattle.fsrm_model.specs.declared.command.Entry.TheVariants.{Order, Finish}
+use Rattle.fsrm_model.specs.declared.command.FileOp.{FileOp}
+use Rattle.fsrm_model.specs.store.Valid.{is_moment}
+use Rattle.fsrm_model.specs.store.Valued.{is_command}
+use Rattle.record_codec.specs.declared.entry.EntryRef.{EntryRef}
+use Rattle.record_codec.specs.declared.entry.EntryRef.TheVariants.{Order as OrderRef, Op as OpRef, Finish as FinishRef}
+use Rattle.record_codec.specs.Entries.{deed_kind}
+use Rattle.record_codec.specs.Quotas.{quota_typed}
+use Rattle.record_codec.specs.Templates.{template_typed}
+use Rattle.record_codec.specs.Typed.{is_path_text}
+
+-- the entry that is lent
+abbrev pub lent : EntryRef → Entry
+lent (OrderRef command) = Order command.now
+lent (OpRef moment op) = Order (record { moment = moment; deed = File op.now })
+lent (FinishRef moment folder) = Finish moment folder
+
+-- the command is valid, and has a kind
+abbrev pub IsWritable : Entry → Type 0
+IsWritable (Order command) = (is_command command ≡ true) × (is_some (deed_kind command.deed) ≡ true)
+IsWritable (Finish moment folder) = is_moment moment ≡ true
+
+-- ---- what the types of the values tell: that texts are UTF-8, and a number is of 32 bits
+abbrev pub file_typed : FileOp → Bool
+file_typed op = list_all is_path_text (paths_of_op op)
+
+abbrev pub deed_typed : Deed → Bool
+deed_typed (File op) = file_typed op
+deed_typed (Quota deed) = quota_typed deed
+deed_typed (Template deed) = template_typed deed
+deed_typed other = true
+
+abbrev pub entry_typed : Entry → Bool
+entry_typed (Order command) = deed_typed command.deed
+entry_typed (Finish moment folder) = nat_le folder (2 ^ 32 - 1)

@@ -1,0 +1,155 @@
+//! File operations.
+
+ghost use Rattle.std.specs.Prelude.{◌≡◌, ◌≤◌, true, length};
+ghost use Rattle.record_fields.specs.Readers.{Gives};
+ghost use Rattle.record_fields.specs.Writers.{Writes};
+ghost use Rattle.record_codec.specs.Files.{file_kind, file_op, file_spelled};
+ghost use Rattle.record_codec.specs.Writing.{file_typed};
+
+use crate::numbers::{read_length, read_owner};
+use crate::paths::{PathField, put_path};
+use fsrm_model::FileOp;
+use record_fields::{Field, FieldFault, Reader, put_u8, put_u64};
+use std::alloc::Global;
+
+/// The kinds of file operations.
+#[derive(Clone, Copy, Debug, PartialEq, Eq)]
+pub enum FileKind {
+    Mkdir,
+    Create,
+    Resize,
+    Touch,
+    Move,
+    Remove,
+}
+
+impl FileKind {
+    /// The kind that a byte means, if it is one of these.
+    pub fn of(byte: u8) -> Option<FileKind>
+        ensures { result ≡ file_kind byte }
+    {
+        match byte {
+            1 => Some(FileKind::Mkdir),
+            2 => Some(FileKind::Create),
+            3 => Some(FileKind::Resize),
+            4 => Some(FileKind::Touch),
+            5 => Some(FileKind::Move),
+            6 => Some(FileKind::Remove),
+            _ => None,
+        }
+    }
+}
+
+/// Reads the values of a file operation of this kind.
+pub fn read_op(alloc: Global, reader: &mut Reader<'_>, kind: FileKind) -> Result<FileOp, FieldFault>
+    ensures { Gives result reader.new ((file_op kind).read reader.old) }
+{
+    match kind {
+        FileKind::Mkdir => read_mkdir(alloc, reader),
+        FileKind::Create => read_create(alloc, reader),
+        FileKind::Resize => read_resize(alloc, reader),
+        FileKind::Touch => read_touch(alloc, reader),
+        FileKind::Move => read_move(alloc, reader),
+        FileKind::Remove => read_remove(alloc, reader),
+    }
+}
+
+#[tactic(auto, unfolding(record_fields::specs::Formats::known_at))]
+fn read_mkdir(alloc: Global, reader: &mut Reader<'_>) -> Result<FileOp, FieldFault>
+    ensures { Gives result reader.new ((file_op FileKind.Mkdir).read reader.old) }
+{
+    let path = PathField::read(alloc, reader)?;
+    let owner = read_owner(reader)?;
+    Ok(FileOp::Mkdir { path, owner })
+}
+
+#[tactic(auto, unfolding(record_fields::specs::Formats::known_at))]
+fn read_create(alloc: Global, reader: &mut Reader<'_>) -> Result<FileOp, FieldFault>
+    ensures { Gives result reader.new ((file_op FileKind.Create).read reader.old) }
+{
+    let path = PathField::read(alloc, reader)?;
+    let length = read_length(reader)?;
+    let owner = read_owner(reader)?;
+    Ok(FileOp::Create {
+        path,
+        length,
+        owner,
+    })
+}
+
+#[tactic(auto, unfolding(record_fields::specs::Formats::known_at))]
+fn read_resize(alloc: Global, reader: &mut Reader<'_>) -> Result<FileOp, FieldFault>
+    ensures { Gives result reader.new ((file_op FileKind.Resize).read reader.old) }
+{
+    let path = PathField::read(alloc, reader)?;
+    let length = read_length(reader)?;
+    Ok(FileOp::Resize { path, length })
+}
+
+#[tactic(auto, unfolding(record_fields::specs::Formats::known_at))]
+fn read_touch(alloc: Global, reader: &mut Reader<'_>) -> Result<FileOp, FieldFault>
+    ensures { Gives result reader.new ((file_op FileKind.Touch).read reader.old) }
+{
+    let path = PathField::read(alloc, reader)?;
+    Ok(FileOp::Touch { path })
+}
+
+#[tactic(auto, unfolding(record_fields::specs::Formats::known_at))]
+fn read_move(alloc: Global, reader: &mut Reader<'_>) -> Result<FileOp, FieldFault>
+    ensures { Gives result reader.new ((file_op FileKind.Move).read reader.old) }
+{
+    let from = PathField::read(alloc, reader)?;
+    let to = PathField::read(alloc, reader)?;
+    Ok(FileOp::Move { from, to })
+}
+
+#[tactic(auto, unfolding(record_fields::specs::Formats::known_at))]
+fn read_remove(alloc: Global, reader: &mut Reader<'_>) -> Result<FileOp, FieldFault>
+    ensures { Gives result reader.new ((file_op FileKind.Remove).read reader.old) }
+{
+    let path = PathField::read(alloc, reader)?;
+    Ok(FileOp::Remove { path })
+}
+
+/// Writes a file operation: its kind, and its values.
+pub fn put_op(op: &FileOp, into: &mut [u8], at: usize) -> usize
+    requires { at ≤ length into.old }
+    ensures written { Writes into.old at into.new result (file_spelled op.now) }
+    ensures typed { file_typed op.now ≡ true }
+{
+    match op {
+        FileOp::Mkdir { path, owner } => {
+            let at = put_u8(into, at, 1);
+            let at = put_path(path, into, at);
+            put_u64(into, at, *owner as u64)
+        }
+        FileOp::Create {
+            path,
+            length,
+            owner,
+        } => {
+            let at = put_u8(into, at, 2);
+            let at = put_path(path, into, at);
+            let at = put_u64(into, at, *length);
+            put_u64(into, at, *owner as u64)
+        }
+        FileOp::Resize { path, length } => {
+            let at = put_u8(into, at, 3);
+            let at = put_path(path, into, at);
+            put_u64(into, at, *length)
+        }
+        FileOp::Touch { path } => {
+            let at = put_u8(into, at, 4);
+            put_path(path, into, at)
+        }
+        FileOp::Move { from, to } => {
+            let at = put_u8(into, at, 5);
+            let at = put_path(from, into, at);
+            put_path(to, into, at)
+        }
+        FileOp::Remove { path } => {
+            let at = put_u8(into, at, 6);
+            put_path(path, into, at)
+        }
+    }
+}

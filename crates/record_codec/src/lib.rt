@@ -1,0 +1,34 @@
+//! Entries of a journal, as bytes.
+//!
+//! An entry is a moment, the kind of what was done in one byte, and the values of the command's words or options in
+//! their order. `specs/Entries` says how each entry is spelled; each has one spelling, and each spelling is of one
+//! entry. Bytes that spell none are refused at the first field that is missing, cut short or not legal.
+//!
+//! Each family of commands has a file of its own here and in `specs`: its kinds, and how the values of each are spelled.
+#![tactic(auto)]
+
+mod decoding;
+mod encoding;
+mod entry;
+mod fault;
+mod fields;
+mod files;
+mod kinds;
+pub mod laws;
+mod notices;
+mod numbers;
+mod paths;
+mod quotas;
+mod settings;
+mod templates;
+mod typed;
+
+pub use decoding::decode;
+pub use encoding::encode;
+pub use entry::EntryRef;
+pub use fault::CodecFault;
+pub use files::FileKind;
+pub use kinds::Kind;
+pub use quotas::QuotaKind;
+pub use settings::SettingKind;
+pub use templates::TemplateKind;
