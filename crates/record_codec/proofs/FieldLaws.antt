@@ -13,7 +13,7 @@ use Rattle.fsrm_model.specs.commands.Entry.{Path}
 use Rattle.fsrm_model.specs.lines.Reading.{Read, path_from}
 use Rattle.fsrm_model.specs.objects.Thresholds.{is_action_text, are_minutes}
 use Rattle.fsrm_model.specs.store.Valued.{is_path}
-use Rattle.fsrm_model.specs.values.Limits.{latest_moment, last_owner, longest_file, least_limit, greatest_limit, greatest_percent, most_minutes}
+use Rattle.fsrm_model.specs.values.Limits.{latest_moment, last_owner, longest_file, least_limit, greatest_limit, greatest_percent, most_minutes, most_patterns, most_excluded}
 use Rattle.fsrm_model.specs.values.Name.{is_name}
 use Rattle.fsrm_model.specs.values.Patterns.{is_object_name, is_pattern}
 use Rattle.fsrm_model.proofs.lines.PathLaws.{path_writes, path_reads}
@@ -24,7 +24,7 @@ use Rattle.record_fields.proofs.ListLaws.{listed_places}
 use Rattle.record_fields.proofs.NumberLaws.{width_1, width_2, width_8, number_exact, number_field}
 use Rattle.record_fields.proofs.StandingLaws.{picked, within_places, standing_places, standing_field_places, shaped_places, tested_field_places}
 use Rattle.record_fields.proofs.TextLaws.{text_exact, text_field}
-use Rattle.record_codec.specs.Fields.{moment, owner, file_length, limit, percent, run_limit, folder, minutes, minutes_of, minutes_code, action_kind, action_kind_of, action_kind_code, object_name, name, pattern, action_text, path, path_of, path_text, if_read, many, new_action, action_parts, is_new, action_values, action, new_notice, notice_parts, notice}
+use Rattle.record_codec.specs.Fields.{moment, owner, file_length, limit, percent, run_limit, folder, minutes, minutes_of, minutes_code, action_kind, action_kind_of, action_kind_code, object_name, name, pattern, action_text, path, path_of, path_text, if_read, many, at_least_one, members, non_members, excluded_names, new_action, action_parts, is_new, action_values, action, new_notice, notice_parts, notice}
 use Rattle.record_codec.proofs.KindLaws.{chosen}
 use Rattle.record_codec.proofs.PathText.{spells, ascii_text}
 
@@ -129,6 +129,18 @@ path_places = standing_field_places path_of path_text is_path text text_exact te
 -- ---- lists
 pub many_places : {X : Type 0} (f : Format X) → Places f → Places (many f)
 many_places f law = listed_places (number_within 2 0 65535) f (within_places 2 0 65535 width_2 (omega arith) (omega arith)) law
+
+pub at_least_one_places : {X : Type 0} (f : Format X) → Places f → Places (at_least_one f)
+at_least_one_places f law = listed_places (number_within 2 1 65535) f (within_places 2 1 65535 width_2 (omega arith) (omega arith)) law
+
+pub members_places : Places members
+members_places = listed_places (number_within 2 1 most_patterns) pattern (within_places 2 1 most_patterns width_2 (omega arith) (omega arith)) pattern_places
+
+pub non_members_places : Places non_members
+non_members_places = listed_places (number_within 2 0 most_patterns) pattern (within_places 2 0 most_patterns width_2 (omega arith) (omega arith)) pattern_places
+
+pub excluded_names_places : Places excluded_names
+excluded_names_places = listed_places (number_within 2 0 most_excluded) name (within_places 2 0 most_excluded width_2 (omega arith) (omega arith)) name_places
 
 -- ---- actions and notifications
 never_run : (o : Option ℕ) → is_none o ≡ true → None ≡ o

@@ -6,6 +6,7 @@ pub mod FileWriting
 pub mod KindLaws
 pub mod Legal
 pub mod NoticeLaws
+pub mod NoticeWriting
 pub mod PathText
 pub mod QuotaLaws
 pub mod QuotaWriting

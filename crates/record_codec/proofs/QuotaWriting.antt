@@ -22,36 +22,10 @@ use Rattle.record_codec.specs.Fields.{limit, percent, object_name, notice}
 use Rattle.record_codec.specs.Notices.{new_thresholds}
 use Rattle.record_codec.specs.Quotas.{quota_kind_in, quota_deed, quota_spelled, new_quota, quota_change, quota_typed}
 use Rattle.record_codec.specs.Typed.{is_path_text, all_typed, some_typed, notice_typed}
-use Rattle.record_codec.proofs.Legal.{limit_legal, percent_legal, truth_legal, object_name_legal, first_path, notice_legal, each_legal, always, few, many_legal, one_byte, eight_bytes, two, text_long, path_long, list_long, option_long, notice_long}
-
--- ---- thresholds
-pub few_percents : (xs : List ℕ) → counted (λ n. 8) xs ≤ 131072 → length xs ≤ 65535
-few_percents xs room = let all = few (λ n. 8) (λ n. omega arith) xs in omega (arith, room, all)
-
-few_notices : (xs : List Added) → counted notice_bytes xs ≤ 131072 → length xs ≤ 65535
-few_notices xs room = let all = few notice_bytes (λ n. omega arith) xs in omega (arith, room, all)
-
-pub percents_legal : (xs : List ℕ) → list_all is_percent xs ≡ true → list_all percent.legal xs ≡ true
-percents_legal xs are = each_legal is_percent (λ n. true) percent.legal (λ n is yes. percent_legal n is) xs are (always xs)
-
-pub new_thresholds_legal : (new : NewThresholds) → are_new_thresholds new ≡ true → all_typed notice_typed new.notices ≡ true → new_threshold_bytes new ≤ 131072 → new_thresholds.legal new ≡ true
-new_thresholds_legal new are utf8 room =
-    let l = both (list_all is_percent new.percents) (list_all is_notice new.notices) are in
-    both_true _ _ (many_legal percent new.percents (few_percents new.percents (omega (arith, room))) (percents_legal new.percents l.0))
-    (many_legal notice new.notices (few_notices new.notices (omega (arith, room))) (each_legal is_notice notice_typed notice.legal notice_legal new.notices l.1 utf8))
-
-pub new_thresholds_long : (new : NewThresholds) → length (new_thresholds.spell new) ≡ new_threshold_bytes new
-new_thresholds_long new = two _ _ _ _ (list_long (number_spelled 8) (λ n. 8) eight_bytes new.percents) (list_long notice.spell notice_bytes notice_long new.notices)
+use Rattle.record_codec.proofs.Legal.{limit_legal, truth_legal, object_name_legal, first_path, one_byte, eight_bytes, two, text_long, path_long, list_long, option_long, truth_long}
+use Rattle.record_codec.proofs.NoticeWriting.{percents_legal, new_thresholds_legal, new_thresholds_long, limit_given, truth_given}
 
 -- ---- optional values
-pub limit_given : (o : Option ℕ) → option_map_or is_limit o true ≡ true → optional_legal false limit o ≡ true
-limit_given None is = refl
-limit_given (Some n) is = limit_legal n is
-
-pub truth_given : (o : Option Bool) → optional_legal false truth o ≡ true
-truth_given None = refl
-truth_given (Some b) = truth_legal b
-
 -- a limit, or a template in its place
 limit_needed : (o : Option ℕ) (template : Option (List ℕ)) → option_map_or is_limit o (is_some template) ≡ true → optional_legal false limit o ≡ true
 limit_needed None template is = refl
@@ -62,9 +36,6 @@ template_needed : (o : Option ℕ) (template : Option (List ℕ)) → option_map
 template_needed o (Some name) some is utf8 = object_name_legal name is utf8
 template_needed (Some n) None some is utf8 = refl
 template_needed None None some is utf8 = absurd (cc some)
-
-pub truth_long : (b : Bool) → length (truth.spell b) ≡ 1
-truth_long b = one_byte (truth_code b)
 
 -- ---- commands
 new_quota_legal : (new : NewQuota) → list_all is_path (new.path ∷ []) ≡ true → list_all is_short_path (new.path ∷ []) ≡ true → is_new_quota new ≡ true → is_path_text new.path ≡ true
@@ -83,7 +54,7 @@ quota_change_legal change names short is at notices gone room =
     let t = both (list_all is_percent change.removed) (are_new_thresholds change.thresholds) l.1 in
     both_true _ _ (first_path change.path names short at) (both_true _ _ (limit_given change.limit l.0)
     (both_true _ _ (truth_given change.enforce) (both_true _ _ (truth_given change.enabled)
-    (both_true _ _ (many_legal percent change.removed (few_percents change.removed gone) (percents_legal change.removed t.0)) (new_thresholds_legal change.thresholds t.1 notices room)))))
+    (both_true _ _ (percents_legal change.removed t.0 gone) (new_thresholds_legal change.thresholds t.1 notices room)))))
 
 -- whether a command's values are legal, if it has a kind
 abbrev pub quota_is_legal : QuotaDeed → Bool

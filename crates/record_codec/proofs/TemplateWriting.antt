@@ -20,8 +20,8 @@ use Rattle.record_fields.specs.Formats.{number_spelled, truth}
 use Rattle.record_codec.specs.Fields.{percent}
 use Rattle.record_codec.specs.Templates.{template_kind_in, template_deed, template_spelled, template_typed, new_template, template_change, update, update_code}
 use Rattle.record_codec.specs.Typed.{all_typed, notice_typed}
-use Rattle.record_codec.proofs.Legal.{limit_legal, truth_legal, object_name_legal, many_legal, one_byte, eight_bytes, two, text_long, list_long, option_long}
-use Rattle.record_codec.proofs.QuotaWriting.{few_percents, percents_legal, new_thresholds_legal, new_thresholds_long, limit_given, truth_given, truth_long}
+use Rattle.record_codec.proofs.Legal.{limit_legal, truth_legal, object_name_legal, one_byte, eight_bytes, two, text_long, list_long, option_long, truth_long}
+use Rattle.record_codec.proofs.NoticeWriting.{percents_legal, new_thresholds_legal, new_thresholds_long, limit_given, truth_given}
 
 update_legal : (u : Update) → update.legal u ≡ true
 update_legal Keep = refl
@@ -41,7 +41,7 @@ template_change_legal change is name notices gone room =
     let t = both (option_map_or is_limit change.limit true) (list_all is_percent change.removed && are_new_thresholds change.thresholds) l.1 in
     let u = both (list_all is_percent change.removed) (are_new_thresholds change.thresholds) t.1 in
     both_true _ _ (object_name_legal change.name l.0 name) (both_true _ _ (limit_given change.limit t.0) (both_true _ _ (truth_given change.enforce)
-    (both_true _ _ (many_legal percent change.removed (few_percents change.removed gone) (percents_legal change.removed u.0))
+    (both_true _ _ (percents_legal change.removed u.0 gone)
     (both_true _ _ (new_thresholds_legal change.thresholds u.1 notices room) (update_legal change.update)))))
 
 -- whether a command's values are legal, if it has a kind

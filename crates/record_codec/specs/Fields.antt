@@ -6,7 +6,7 @@ use Rattle.fsrm_model.specs.declared.row.Action.{Action}
 use Rattle.fsrm_model.specs.declared.row.ActionKind.{ActionKind}
 use Rattle.fsrm_model.specs.declared.row.ActionKind.TheVariants.{Event, Mail, Program, Report}
 use Rattle.fsrm_model.specs.commands.Entry.{Path}
-use Rattle.fsrm_model.specs.values.Limits.{latest_moment, last_owner, longest_file, least_limit, greatest_limit, greatest_percent, most_minutes}
+use Rattle.fsrm_model.specs.values.Limits.{latest_moment, last_owner, longest_file, least_limit, greatest_limit, greatest_percent, most_minutes, most_patterns, most_excluded}
 use Rattle.fsrm_model.specs.values.Name.{is_name}
 use Rattle.fsrm_model.specs.values.Patterns.{is_object_name, is_pattern}
 use Rattle.fsrm_model.specs.lines.Reading.{Read, path_from}
@@ -99,6 +99,19 @@ path = standing path_of path_text is_path text
 -- ---- lists
 abbrev pub many : {X : Type 0} → Format X → Format (List X)
 many f = listed (number_within 2 0 65535) f
+
+-- one at least
+abbrev pub at_least_one : {X : Type 0} → Format X → Format (List X)
+at_least_one f = listed (number_within 2 1 65535) f
+
+abbrev pub members : Format (List (List ℕ))
+members = listed (number_within 2 1 most_patterns) pattern
+
+abbrev pub non_members : Format (List (List ℕ))
+non_members = listed (number_within 2 0 most_patterns) pattern
+
+abbrev pub excluded_names : Format (List (List ℕ))
+excluded_names = listed (number_within 2 0 most_excluded) name
 
 -- ---- actions and notifications
 -- an action that never ran

@@ -1,14 +1,21 @@
 //! Kinds of fields that lists and optional values are of.
 
-ghost use Rattle.record_codec.specs.Fields.{limit, percent, object_name};
 ghost use Rattle.std.specs.Prelude.{◌≡◌};
 ghost use Rattle.std.specs.List.{list_all};
+ghost use Rattle.fsrm_model.specs.objects.Thresholds.{is_printing, is_action_text};
 ghost use Rattle.fsrm_model.specs.values.Patterns.{is_object_byte, is_object_name};
+ghost use Rattle.record_codec.specs.Fields.{limit, percent, object_name, name, pattern, action_text, members, non_members, excluded_names};
 
-use fsrm_base::Text;
-use fsrm_model::limits::{GREATEST_LIMIT, GREATEST_PERCENT, LEAST_LIMIT};
-use name_rules::is_name_length;
-use record_fields::{Field, FieldFault, Flaw, Reader, put_text, put_u64};
+use file_groups::is_pattern;
+use fsrm_base::{List, Text};
+use fsrm_model::limits::{
+    GREATEST_LIMIT, GREATEST_PERCENT, LEAST_LIMIT, LONGEST_ACTION_TEXT, MOST_EXCLUDED,
+    MOST_PATTERNS,
+};
+use name_rules::{is_name, is_name_length};
+use record_fields::{
+    Field, FieldFault, Flaw, Reader, put_short_list, put_text, put_u64, read_short_list,
+};
 use std::alloc::Global;
 
 /// A limit of a quota.
@@ -69,6 +76,126 @@ impl Field for ObjectNameField {
     }
 }
 
+/// The name of a node.
+pub struct NameField;
+
+impl Field for NameField {
+    type Value = Text;
+
+    ghost format = { name };
+
+    #[tactic(auto, unfolding(record_fields::specs::Formats::known_at))]
+    fn read(alloc: Global, reader: &mut Reader<'_>) -> Result<Text, FieldFault> {
+        let left = reader.left();
+        let text = reader.read_text()?;
+        if !is_name(text) {
+            return Err(FieldFault::Flawed(Flaw::Illegal { left }));
+        }
+        Ok(Text::from_str(alloc, text)?)
+    }
+
+    fn write(value: &Text, into: &mut [u8], at: usize) -> usize {
+        put_text(into, at, value.as_str())
+    }
+}
+
+/// A pattern of names.
+pub struct PatternField;
+
+impl Field for PatternField {
+    type Value = Text;
+
+    ghost format = { pattern };
+
+    #[tactic(auto, unfolding(record_fields::specs::Formats::known_at))]
+    fn read(alloc: Global, reader: &mut Reader<'_>) -> Result<Text, FieldFault> {
+        let left = reader.left();
+        let text = reader.read_text()?;
+        if !is_pattern(text) {
+            return Err(FieldFault::Flawed(Flaw::Illegal { left }));
+        }
+        Ok(Text::from_str(alloc, text)?)
+    }
+
+    fn write(value: &Text, into: &mut [u8], at: usize) -> usize {
+        put_text(into, at, value.as_str())
+    }
+}
+
+/// The text of an action.
+pub struct ActionTextField;
+
+impl Field for ActionTextField {
+    type Value = Text;
+
+    ghost format = { action_text };
+
+    #[tactic(auto, unfolding(record_fields::specs::Formats::known_at))]
+    fn read(alloc: Global, reader: &mut Reader<'_>) -> Result<Text, FieldFault> {
+        let left = reader.left();
+        let text = reader.read_text()?;
+        if !is_action_text(text) {
+            return Err(FieldFault::Flawed(Flaw::Illegal { left }));
+        }
+        Ok(Text::from_str(alloc, text)?)
+    }
+
+    fn write(value: &Text, into: &mut [u8], at: usize) -> usize {
+        put_text(into, at, value.as_str())
+    }
+}
+
+/// The members of a file group: 1 to 64 patterns.
+pub struct MembersField;
+
+impl Field for MembersField {
+    type Value = List<Text>;
+
+    ghost format = { members };
+
+    fn read(alloc: Global, reader: &mut Reader<'_>) -> Result<List<Text>, FieldFault> {
+        read_short_list::<PatternField>(alloc, reader, 1, MOST_PATTERNS as u16)
+    }
+
+    fn write(value: &List<Text>, into: &mut [u8], at: usize) -> usize {
+        put_short_list::<PatternField>(value, into, at)
+    }
+}
+
+/// The non-members of a file group: at most 64 patterns.
+pub struct NonMembersField;
+
+impl Field for NonMembersField {
+    type Value = List<Text>;
+
+    ghost format = { non_members };
+
+    fn read(alloc: Global, reader: &mut Reader<'_>) -> Result<List<Text>, FieldFault> {
+        read_short_list::<PatternField>(alloc, reader, 0, MOST_PATTERNS as u16)
+    }
+
+    fn write(value: &List<Text>, into: &mut [u8], at: usize) -> usize {
+        put_short_list::<PatternField>(value, into, at)
+    }
+}
+
+/// The names that an auto-apply quota excludes: at most 32.
+pub struct ExcludedField;
+
+impl Field for ExcludedField {
+    type Value = List<Text>;
+
+    ghost format = { excluded_names };
+
+    fn read(alloc: Global, reader: &mut Reader<'_>) -> Result<List<Text>, FieldFault> {
+        read_short_list::<NameField>(alloc, reader, 0, MOST_EXCLUDED as u16)
+    }
+
+    fn write(value: &List<Text>, into: &mut [u8], at: usize) -> usize {
+        put_short_list::<NameField>(value, into, at)
+    }
+}
+
 fn is_object_byte(byte: u8) -> bool
     ensures { result ≡ is_object_byte byte }
 {
@@ -85,4 +212,16 @@ fn is_object_name(text: &str) -> bool
     ensures { result ≡ is_object_name text.now }
 {
     is_name_length(text.len()) && are_object_bytes(text.as_bytes())
+}
+
+fn is_printing(bytes: &[u8]) -> bool
+    ensures { result ≡ list_all is_printing bytes.now }
+{
+    bytes.iter().all(|byte| *byte >= 32 && *byte != 127)
+}
+
+fn is_action_text(text: &str) -> bool
+    ensures { result ≡ is_action_text text.now }
+{
+    text.len() <= LONGEST_ACTION_TEXT && is_printing(text.as_bytes())
 }

@@ -27,8 +27,12 @@ pub use decoding::decode;
 pub use encoding::encode;
 pub use entry::EntryRef;
 pub use fault::CodecFault;
+pub use fields::{
+    ActionTextField, LimitField, NameField, ObjectNameField, PatternField, PercentField,
+};
 pub use files::FileKind;
 pub use kinds::Kind;
+pub use notices::ActionKindField;
 pub use quotas::QuotaKind;
 pub use settings::SettingKind;
 pub use templates::TemplateKind;

@@ -1,18 +1,15 @@
 //! Thresholds, and actions, as commands give them.
 
 ghost use Rattle.std.specs.Prelude.{◌≡◌, ◌≤◌, true, length};
-ghost use Rattle.std.specs.List.{list_all};
-ghost use Rattle.fsrm_model.specs.objects.Thresholds.{is_printing, is_action_text};
 ghost use Rattle.record_fields.specs.Readers.{Gives, Shows};
 ghost use Rattle.record_fields.specs.Writers.{Writes};
-ghost use Rattle.record_codec.specs.Fields.{action_kind, minutes as minutes_format, action_text, action as action_format, notice as notice_format};
+ghost use Rattle.record_codec.specs.Fields.{action_kind, minutes as minutes_format, action as action_format, notice as notice_format};
 ghost use Rattle.record_codec.specs.Notices.{new_thresholds};
 ghost use Rattle.record_codec.specs.Typed.{all_typed, action_typed, notice_typed};
 
-use crate::fields::PercentField;
+use crate::fields::{ActionTextField, PercentField};
 use crate::typed::{OwnText, Typed, put_all};
-use fsrm_base::Text;
-use fsrm_model::limits::{LONGEST_ACTION_TEXT, MOST_MINUTES};
+use fsrm_model::limits::MOST_MINUTES;
 use fsrm_model::{Action, ActionKind, Added, NewThresholds};
 use record_fields::{
     Field, FieldFault, Flaw, Reader, put_short_list, put_u8, put_u64, read_short_list,
@@ -29,9 +26,9 @@ impl Field for ActionField {
 
     #[tactic(auto, unfolding(record_fields::specs::Formats::known_at))]
     fn read(alloc: Global, reader: &mut Reader<'_>) -> Result<Action, FieldFault> {
-        let kind = read_action_kind(reader)?;
+        let kind = ActionKindField::read(alloc, reader)?;
         let minutes = read_minutes(reader)?;
-        let text = read_action_text(alloc, reader)?;
+        let text = ActionTextField::read(alloc, reader)?;
         Ok(Action {
             kind,
             minutes,
@@ -131,17 +128,28 @@ pub fn put_new_thresholds(new: &NewThresholds, into: &mut [u8], at: usize) -> us
     put_all::<NoticeField>(&new.notices, into, after)
 }
 
-#[tactic(auto, unfolding(record_fields::specs::Formats::known_at))]
-fn read_action_kind(reader: &mut Reader<'_>) -> Result<ActionKind, Flaw>
-    ensures { Shows result reader.new (action_kind.read reader.old) }
-{
-    let left = reader.left();
-    match reader.read_u8()? {
-        1 => Ok(ActionKind::Event),
-        2 => Ok(ActionKind::Mail),
-        3 => Ok(ActionKind::Program),
-        4 => Ok(ActionKind::Report),
-        _ => Err(Flaw::Illegal { left }),
+/// What an action does.
+pub struct ActionKindField;
+
+impl Field for ActionKindField {
+    type Value = ActionKind;
+
+    ghost format = { action_kind };
+
+    #[tactic(auto, unfolding(record_fields::specs::Formats::known_at))]
+    fn read(_alloc: Global, reader: &mut Reader<'_>) -> Result<ActionKind, FieldFault> {
+        let left = reader.left();
+        match reader.read_u8()? {
+            1 => Ok(ActionKind::Event),
+            2 => Ok(ActionKind::Mail),
+            3 => Ok(ActionKind::Program),
+            4 => Ok(ActionKind::Report),
+            _ => Err(FieldFault::Flawed(Flaw::Illegal { left })),
+        }
+    }
+
+    fn write(value: &ActionKind, into: &mut [u8], at: usize) -> usize {
+        put_action_kind(*value, into, at)
     }
 }
 
@@ -186,28 +194,4 @@ fn put_minutes(minutes: &i32, into: &mut [u8], at: usize) -> usize
         *minutes as u64
     };
     put_u64(into, at, code)
-}
-
-fn is_printing(bytes: &[u8]) -> bool
-    ensures { result ≡ list_all is_printing bytes.now }
-{
-    bytes.iter().all(|byte| *byte >= 32 && *byte != 127)
-}
-
-fn is_action_text(text: &str) -> bool
-    ensures { result ≡ is_action_text text.now }
-{
-    text.len() <= LONGEST_ACTION_TEXT && is_printing(text.as_bytes())
-}
-
-#[tactic(auto, unfolding(record_fields::specs::Formats::known_at))]
-fn read_action_text(alloc: Global, reader: &mut Reader<'_>) -> Result<Text, FieldFault>
-    ensures { Gives result reader.new (action_text.read reader.old) }
-{
-    let left = reader.left();
-    let text = reader.read_text()?;
-    if !is_action_text(text) {
-        return Err(FieldFault::Flawed(Flaw::Illegal { left }));
-    }
-    Ok(Text::from_str(alloc, text)?)
 }
