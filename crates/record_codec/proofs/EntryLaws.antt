@@ -1,16 +1,11 @@
 -- Entries are read as they are spelled, and no other bytes spell them.
-use Rattle.std.proofs.Common.{◌≡◌, ℕ, ◌-◌, Bool, true, false, cond, List, [], length, Option, Some, None, Ok, Err, Result, refl, sym, ap, ◌∙◌}
+use Rattle.std.proofs.Common.{◌≡◌, ℕ, ◌-◌, Bool, true, false, cond, List, [], length, None, Some, Ok, Err, Result, refl, sym, ap, ◌∙◌}
 use Rattle.std.specs.Prelude.{nat_eq, IfOk, option_map}
-use Rattle.std.specs.Option.{option_or}
 use Rattle.std.proofs.lemmas.Bool.{eqb-true}
 use Rattle.std.proofs.lemmas.List.{append-nil, nil_from_length}
-use Rattle.fsrm_model.specs.declared.command.AdminDeed.{AdminDeed}
-use Rattle.fsrm_model.specs.declared.command.Deed.TheVariants.{File, Quota, Template, Admin}
+use Rattle.fsrm_model.specs.declared.command.Deed.{Deed}
 use Rattle.fsrm_model.specs.declared.command.Entry.{Entry}
 use Rattle.fsrm_model.specs.declared.command.Entry.TheVariants.{Order, Finish}
-use Rattle.fsrm_model.specs.declared.command.FileOp.{FileOp}
-use Rattle.fsrm_model.specs.declared.command.QuotaDeed.{QuotaDeed}
-use Rattle.fsrm_model.specs.declared.command.TemplateDeed.{TemplateDeed}
 use Rattle.record_fields.specs.Formats.{Read, number, ◌⊗◌}
 use Rattle.record_fields.specs.Laws.{AreBytes, Places}
 use Rattle.record_fields.proofs.FollowedLaws.{◌also◌}
@@ -18,93 +13,46 @@ use Rattle.record_fields.proofs.NumberLaws.{number_exact, number_field, width_1}
 use Rattle.record_fields.proofs.StandingLaws.{shaped_places, standing_field_places}
 use Rattle.record_codec.specs.declared.fault.CodecFault.{CodecFault}
 use Rattle.record_codec.specs.declared.kinds.Kind.{Kind}
-use Rattle.record_codec.specs.declared.kinds.Kind.TheVariants.{File as FileKinds, Quota as QuotaKinds, Template as TemplateKinds, Setting as SettingKinds, Finish as FinishKind}
+use Rattle.record_codec.specs.declared.kinds.Kind.TheVariants.{Deed as DeedKinds, Finish as FinishKind}
 use Rattle.record_codec.specs.Decoding.{Decodes}
-use Rattle.record_codec.specs.Entries.{Body, Does, Finishes, kind_of, kind_code, kind_in, finish_kind, entry_kind, op_in, quota_in, template_in, setting_in, folder_in, values, body, entry, entry_of, entry_parts, at_end, decoded}
+use Rattle.record_codec.specs.Deeds.{deed_kind_of, deed_values}
+use Rattle.record_codec.specs.Entries.{Body, Does, Finishes, kind_of, kind_code, kind_in, entry_kind, deed_in, folder_in, values, body, entry, entry_of, entry_parts, at_end, decoded}
 use Rattle.record_codec.specs.Fields.{moment, folder}
-use Rattle.record_codec.specs.Files.{file_kind, file_code, file_op}
-use Rattle.record_codec.specs.Quotas.{quota_kind, quota_deed}
-use Rattle.record_codec.specs.declared.settings.SettingKind.TheVariants.{Options as OptionsSetting}
-use Rattle.record_codec.specs.Settings.{setting_kind, setting_deed}
-use Rattle.record_codec.proofs.SettingLaws.{setting_home, setting_deed_places, setting_own}
-use Rattle.record_codec.specs.Templates.{template_kind, template_deed}
-use Rattle.record_codec.specs.declared.templates.TemplateKind.TheVariants.{Add as AddTemplate, Modify as ModifyTemplate, Delete as DeleteTemplate}
-use Rattle.record_codec.specs.declared.quotas.QuotaKind.TheVariants.{Add as AddQuota, Modify as ModifyQuota, Delete as DeleteQuota, Scan as ScanQuota, Resetpeak as ResetpeakQuota}
+use Rattle.record_codec.proofs.DeedLaws.{deed_known, deed_home, deed_places, deed_own, earlier}
 use Rattle.record_codec.proofs.FieldLaws.{moment_places, folder_places}
-use Rattle.record_codec.proofs.FileLaws.{file_there, file_home, file_op_places, file_own}
-use Rattle.record_codec.proofs.QuotaLaws.{quota_home, quota_deed_places, quota_own}
-use Rattle.record_codec.proofs.TemplateLaws.{template_home, template_deed_places, template_own}
-use Rattle.record_codec.proofs.KindLaws.{AreOwn, one_of_places, tagged_places, chosen}
+use Rattle.record_codec.proofs.KindLaws.{AreOwn, one_of_places, tagged_places, made_of, chosen}
 
 -- ---- the byte of the kind
 kind_there : (k : Kind) → true ≡ true → kind_of (kind_code k) ≡ Some k
-kind_there (FileKinds k) may = ap (λ o. option_or (option_map FileKinds o) (option_or (option_map QuotaKinds (quota_kind (file_code k))) (option_or (option_map TemplateKinds (template_kind (file_code k))) (option_or (option_map SettingKinds (setting_kind (file_code k))) (finish_kind (file_code k)))))) (file_there k)
-kind_there (QuotaKinds AddQuota) may = refl
-kind_there (QuotaKinds ModifyQuota) may = refl
-kind_there (QuotaKinds DeleteQuota) may = refl
-kind_there (QuotaKinds ScanQuota) may = refl
-kind_there (QuotaKinds ResetpeakQuota) may = refl
-kind_there (TemplateKinds AddTemplate) may = refl
-kind_there (TemplateKinds ModifyTemplate) may = refl
-kind_there (TemplateKinds DeleteTemplate) may = refl
-kind_there (SettingKinds OptionsSetting) may = refl
+kind_there (DeedKinds k) may = rw (deed_known k).0 refl
 kind_there FinishKind may = refl
 
--- a byte of a family's, or of a later one
 abbrev IsCode : ℕ → Kind → Type 0
-IsCode n k = kind_code k ≡ n
-
-earlier : {F : Type 0} (P : Kind → Type 0) (of_family : F → Kind) (o : Option F) (rest : Option Kind) (k : Kind) → ((f : F) → o ≡ Some f → P (of_family f)) → (rest ≡ Some k → P k)
-    → option_or (option_map of_family o) rest ≡ Some k → P k
-earlier P of_family None rest k here later e = later e
-earlier P of_family (Some f) rest k here later e = chosen P true (of_family f) k rest (λ t. here f refl) later e
+IsCode n k = (true ≡ true) × (kind_code k ≡ n)
 
 kind_home : (n : ℕ) (k : Kind) → kind_of n ≡ Some k → (true ≡ true) × (kind_code k ≡ n)
-kind_home n k e = (
-  refl,
-  earlier (IsCode n) FileKinds (file_kind n) (option_or (option_map QuotaKinds (quota_kind n)) (option_or (option_map TemplateKinds (template_kind n)) (option_or (option_map SettingKinds (setting_kind n)) (finish_kind n)))) k (file_home n)
-      (earlier (IsCode n) QuotaKinds (quota_kind n) (option_or (option_map TemplateKinds (template_kind n)) (option_or (option_map SettingKinds (setting_kind n)) (finish_kind n))) k (quota_home n)
-      (earlier (IsCode n) TemplateKinds (template_kind n) (option_or (option_map SettingKinds (setting_kind n)) (finish_kind n)) k (template_home n)
-      (earlier (IsCode n) SettingKinds (setting_kind n) (finish_kind n) k (setting_home n)
-      (chosen (IsCode n) (nat_eq n 99) FinishKind k None (λ t. sym (eqb-true n 99 t)) (λ none. absurd (cc none)))))) e,
-)
+kind_home n k =
+    earlier (IsCode n) DeedKinds (deed_kind_of n) _ k (λ d is. (refl, deed_home n d is))
+    (chosen (IsCode n) (nat_eq n 99) FinishKind k None (λ t. (refl, sym (eqb-true n 99 t))) (λ none. absurd (cc none)))
 
 entry_kind_places : Places entry_kind
 entry_kind_places = standing_field_places kind_of kind_code (λ k. true) (number 1) (number_exact 1 width_1) (number_field 1) kind_there kind_home FinishKind refl refl
 
 -- ---- what follows it
-op_whole : (b : Body) (op : FileOp) → op_in b ≡ Some op → Does (File op) ≡ b
-op_whole (Does (File op)) given e = cc
-op_whole other given e = absurd (cc e)
-
-quota_whole : (b : Body) (deed : QuotaDeed) → quota_in b ≡ Some deed → Does (Quota deed) ≡ b
-quota_whole (Does (Quota deed)) given e = cc
-quota_whole other given e = absurd (cc e)
-
-template_whole : (b : Body) (deed : TemplateDeed) → template_in b ≡ Some deed → Does (Template deed) ≡ b
-template_whole (Does (Template deed)) given e = cc
-template_whole other given e = absurd (cc e)
-
-setting_whole : (b : Body) (deed : AdminDeed) → setting_in b ≡ Some deed → Does (Admin deed) ≡ b
-setting_whole (Does (Admin deed)) given e = cc
-setting_whole other given e = absurd (cc e)
+deed_whole : (b : Body) (deed : Deed) → deed_in b ≡ Some deed → Does deed ≡ b
+deed_whole (Does deed) given e = made_of Does deed given e
+deed_whole other given e = absurd (cc e)
 
 folder_whole : (b : Body) (n : ℕ) → folder_in b ≡ Some n → Finishes n ≡ b
 folder_whole (Finishes number) n e = cc
 folder_whole other n e = absurd (cc e)
 
 values_places : (k : Kind) → Places (values k)
-values_places (FileKinds k) = one_of_places (λ op. Does (File op)) op_in (file_op k) (file_op_places k) (λ op. refl) op_whole
-values_places (QuotaKinds k) = one_of_places (λ deed. Does (Quota deed)) quota_in (quota_deed k) (quota_deed_places k) (λ deed. refl) quota_whole
-values_places (TemplateKinds k) = one_of_places (λ deed. Does (Template deed)) template_in (template_deed k) (template_deed_places k) (λ deed. refl) template_whole
-values_places (SettingKinds k) = one_of_places (λ deed. Does (Admin deed)) setting_in (setting_deed k) (setting_deed_places k) (λ deed. refl) setting_whole
+values_places (DeedKinds k) = one_of_places Does deed_in (deed_values k) (deed_places k) (λ deed. refl) deed_whole
 values_places FinishKind = one_of_places Finishes folder_in folder folder_places (λ n. refl) folder_whole
 
 values_own : AreOwn values kind_in
-values_own (FileKinds k) (Does (File op)) legal = ap (λ j. Some (FileKinds j)) (file_own k op legal)
-values_own (QuotaKinds k) (Does (Quota deed)) legal = ap (option_map QuotaKinds) (quota_own k deed legal)
-values_own (TemplateKinds k) (Does (Template deed)) legal = ap (option_map TemplateKinds) (template_own k deed legal)
-values_own (SettingKinds k) (Does (Admin deed)) legal = ap (option_map SettingKinds) (setting_own k deed legal)
+values_own (DeedKinds k) (Does deed) legal = ap (option_map DeedKinds) (deed_own k deed legal)
 values_own FinishKind (Finishes number) legal = refl
 values_own k other legal = absurd (cc legal)
 

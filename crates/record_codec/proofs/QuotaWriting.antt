@@ -6,20 +6,17 @@ use Rattle.std.specs.Option.{option_map_or}
 use Rattle.std.specs.Str.{is_utf8}
 use Rattle.fsrm_base.proofs.TestLaws.{both, both_true}
 use Rattle.fsrm_model.specs.commands.Commands.{form_of_quota, is_new_quota, is_quota_change, are_new_thresholds, new_threshold_bytes}
-use Rattle.fsrm_model.specs.commands.Entry.{path_bytes, text_bytes, notice_bytes, counted}
-use Rattle.fsrm_model.specs.declared.command.Added.{Added}
+use Rattle.fsrm_model.specs.commands.Entry.{path_bytes, text_bytes, counted}
 use Rattle.fsrm_model.specs.declared.command.NewQuota.{NewQuota}
-use Rattle.fsrm_model.specs.declared.command.NewThresholds.{NewThresholds}
 use Rattle.fsrm_model.specs.declared.command.QuotaChange.{QuotaChange}
 use Rattle.fsrm_model.specs.declared.command.QuotaDeed.{QuotaDeed}
 use Rattle.fsrm_model.specs.declared.command.QuotaDeed.TheVariants.{Add as QuotaAdd, Modify as QuotaModify, Delete as QuotaDelete, Scan as QuotaScan, Resetpeak as QuotaResetpeak, List as QuotaList}
 use Rattle.fsrm_model.specs.objects.Quota.{is_limit}
-use Rattle.fsrm_model.specs.objects.Thresholds.{is_percent, is_notice}
+use Rattle.fsrm_model.specs.objects.Thresholds.{is_percent}
 use Rattle.fsrm_model.specs.store.Valued.{is_path, is_short_path}
 use Rattle.fsrm_model.specs.values.Patterns.{is_object_name}
-use Rattle.record_fields.specs.Formats.{number_spelled, text_spelled, optional_legal, truth, truth_code}
-use Rattle.record_codec.specs.Fields.{limit, percent, object_name, notice}
-use Rattle.record_codec.specs.Notices.{new_thresholds}
+use Rattle.record_fields.specs.Formats.{number_spelled, text_spelled, optional_legal, truth}
+use Rattle.record_codec.specs.Fields.{limit, object_name}
 use Rattle.record_codec.specs.Quotas.{quota_kind_in, quota_deed, quota_spelled, new_quota, quota_change, quota_typed}
 use Rattle.record_codec.specs.Typed.{is_path_text, all_typed, some_typed, notice_typed}
 use Rattle.record_codec.proofs.Legal.{limit_legal, truth_legal, object_name_legal, first_path, one_byte, eight_bytes, two, text_long, path_long, list_long, option_long, truth_long}

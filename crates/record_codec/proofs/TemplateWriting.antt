@@ -17,7 +17,6 @@ use Rattle.fsrm_model.specs.objects.Quota.{is_limit}
 use Rattle.fsrm_model.specs.objects.Thresholds.{is_percent}
 use Rattle.fsrm_model.specs.values.Patterns.{is_object_name}
 use Rattle.record_fields.specs.Formats.{number_spelled, truth}
-use Rattle.record_codec.specs.Fields.{percent}
 use Rattle.record_codec.specs.Templates.{template_kind_in, template_deed, template_spelled, template_typed, new_template, template_change, update, update_code}
 use Rattle.record_codec.specs.Typed.{all_typed, notice_typed}
 use Rattle.record_codec.proofs.Legal.{limit_legal, truth_legal, object_name_legal, one_byte, eight_bytes, two, text_long, list_long, option_long, truth_long}

@@ -1,41 +1,23 @@
 -- Entries: a moment, the kind of the command, and the values of its words or options in their order.
 use Rattle.std.specs.Prelude.{ℕ, ◌-◌, ◌==◌, true, List, length, Option, Some, None, Result, Ok, Err, option_map, if◌then◌else◌}
 use Rattle.std.specs.Option.{option_or}
-use Rattle.fsrm_model.specs.declared.command.AdminDeed.{AdminDeed}
 use Rattle.fsrm_model.specs.declared.command.Deed.{Deed}
-use Rattle.fsrm_model.specs.declared.command.Deed.TheVariants.{File, Quota, Template, Admin}
 use Rattle.fsrm_model.specs.declared.command.Entry.{Entry}
 use Rattle.fsrm_model.specs.declared.command.Entry.TheVariants.{Order, Finish}
-use Rattle.fsrm_model.specs.declared.command.FileOp.{FileOp}
-use Rattle.fsrm_model.specs.declared.command.QuotaDeed.{QuotaDeed}
-use Rattle.fsrm_model.specs.declared.command.TemplateDeed.{TemplateDeed}
 use Rattle.record_fields.specs.Formats.{Format, Read, shaped, choice, ◌⊗◌}
 use Rattle.record_fields.specs.Laws.{left_of}
 use Rattle.record_codec.specs.declared.kinds.Kind.{Kind}
-use Rattle.record_codec.specs.declared.kinds.Kind.TheVariants.{File as FileKinds, Quota as QuotaKinds, Template as TemplateKinds, Setting as SettingKinds, Finish as FinishKind}
+use Rattle.record_codec.specs.declared.kinds.Kind.TheVariants.{Deed as DeedKinds, Finish as FinishKind}
+use Rattle.record_codec.specs.Deeds.{deed_kind_of, deed_code, deed_kind, deed_values}
 use Rattle.record_codec.specs.Fields.{moment, folder}
-use Rattle.record_codec.specs.Files.{file_kind, file_code, file_kind_in, file_op}
 use Rattle.record_codec.specs.Kinds.{one_of, tagged}
-use Rattle.record_codec.specs.Quotas.{quota_kind, quota_code, quota_kind_in, quota_deed}
-use Rattle.record_codec.specs.Settings.{setting_kind, setting_code, setting_kind_in, setting_deed}
-use Rattle.record_codec.specs.Templates.{template_kind, template_code, template_kind_in, template_deed}
 
 -- ---- kinds, in one byte
-abbrev pub finish_kind : ℕ → Option Kind
-finish_kind n = if n == 99 then Some FinishKind else None
-
 abbrev pub kind_of : ℕ → Option Kind
-kind_of n =
-    option_or (option_map FileKinds (file_kind n))
-    (option_or (option_map QuotaKinds (quota_kind n))
-    (option_or (option_map TemplateKinds (template_kind n))
-    (option_or (option_map SettingKinds (setting_kind n)) (finish_kind n))))
+kind_of n = option_or (option_map DeedKinds (deed_kind_of n)) (if n == 99 then Some FinishKind else None)
 
 abbrev pub kind_code : Kind → ℕ
-kind_code (FileKinds k) = file_code k
-kind_code (QuotaKinds k) = quota_code k
-kind_code (TemplateKinds k) = template_code k
-kind_code (SettingKinds k) = setting_code k
+kind_code (DeedKinds k) = deed_code k
 kind_code FinishKind = 99
 
 abbrev pub entry_kind : Format Kind
@@ -46,43 +28,20 @@ pub data Body : Type 0 where
   Does : (deed : Deed) → Body
   Finishes : (folder : ℕ) → Body
 
--- the kind of a deed, if its entry has one
-abbrev pub deed_kind : Deed → Option Kind
-deed_kind (File op) = Some (FileKinds (file_kind_in op))
-deed_kind (Quota deed) = option_map QuotaKinds (quota_kind_in deed)
-deed_kind (Template deed) = option_map TemplateKinds (template_kind_in deed)
-deed_kind (Admin deed) = option_map SettingKinds (setting_kind_in deed)
-deed_kind other = None
-
 abbrev pub kind_in : Body → Option Kind
-kind_in (Does deed) = deed_kind deed
+kind_in (Does deed) = option_map DeedKinds (deed_kind deed)
 kind_in (Finishes number) = Some FinishKind
 
-abbrev pub op_in : Body → Option FileOp
-op_in (Does (File op)) = Some op
-op_in other = None
-
-abbrev pub quota_in : Body → Option QuotaDeed
-quota_in (Does (Quota deed)) = Some deed
-quota_in other = None
-
-abbrev pub template_in : Body → Option TemplateDeed
-template_in (Does (Template deed)) = Some deed
-template_in other = None
-
-abbrev pub setting_in : Body → Option AdminDeed
-setting_in (Does (Admin deed)) = Some deed
-setting_in other = None
+abbrev pub deed_in : Body → Option Deed
+deed_in (Does deed) = Some deed
+deed_in other = None
 
 abbrev pub folder_in : Body → Option ℕ
 folder_in (Finishes number) = Some number
 folder_in other = None
 
 abbrev pub values : Kind → Format Body
-values (FileKinds k) = one_of (λ op. Does (File op)) op_in (file_op k)
-values (QuotaKinds k) = one_of (λ deed. Does (Quota deed)) quota_in (quota_deed k)
-values (TemplateKinds k) = one_of (λ deed. Does (Template deed)) template_in (template_deed k)
-values (SettingKinds k) = one_of (λ deed. Does (Admin deed)) setting_in (setting_deed k)
+values (DeedKinds k) = one_of Does deed_in (deed_values k)
 values FinishKind = one_of Finishes folder_in folder
 
 abbrev pub body : Format Body

@@ -1,11 +1,16 @@
+pub mod Autoquotas
 pub mod Decoding
+pub mod Deeds
 pub mod Entries
+pub mod Exceptions
 pub mod Fields
+pub mod Filegroups
 pub mod Files
 pub mod Kinds
 pub mod Notices
 pub mod Paths
 pub mod Quotas
+pub mod Screens
 pub mod Settings
 pub mod Templates
 pub mod Typed

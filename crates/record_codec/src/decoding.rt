@@ -4,17 +4,14 @@ ghost use Rattle.std.specs.Prelude.{◌≡◌, ◌-◌, true, length, IfOk, Ok};
 ghost use Rattle.fsrm_model.specs.declared.command.Entry.{Entry as EntryValue};
 ghost use Rattle.record_fields.specs.Readers.{Gives};
 ghost use Rattle.record_codec.specs.declared.fault.CodecFault.TheVariants.{BadRecord};
-ghost use Rattle.record_codec.specs.Decoding.{Decodes};
+ghost use Rattle.record_codec.specs.Decoding.{Decodes, GoesWrong, IfBad};
 ghost use Rattle.record_codec.specs.Entries.{entry as entry_format, decoded};
 
+use crate::deeds::read_deed;
 use crate::fault::CodecFault;
-use crate::files::read_op;
 use crate::kinds::{Kind, read_kind};
 use crate::numbers::{read_folder, read_moment};
-use crate::quotas::read_quota_deed;
-use crate::settings::read_setting;
-use crate::templates::read_template_deed;
-use fsrm_model::{Boxed, Command, Deed, Entry};
+use fsrm_model::{Command, Entry};
 use record_fields::{FieldFault, Flaw, Reader};
 use std::alloc::Global;
 
@@ -24,7 +21,9 @@ pub fn decode(alloc: Global, bytes: &[u8]) -> Result<Entry, CodecFault>
     ensures found { IfOk result (λ e. (entry_format.legal e ≡ true) × (bytes.now ≡ entry_format.spell e)) }
     // The spelling of a legal entry is read as that entry, unless memory runs out.
     ensures only { (e : EntryValue) → entry_format.legal e ≡ true → bytes.now ≡ entry_format.spell e → Decodes result (Ok e) }
-    // Which place it is.
+    // The place that is told is where the bytes go wrong.
+    ensures place { IfBad result (GoesWrong bytes.now) }
+    // The same, computed.
     ensures exact { Decodes result (decoded bytes.now) }
 {
     decode_exactly(alloc, bytes)
@@ -63,33 +62,9 @@ fn read_entry(alloc: Global, reader: &mut Reader<'_>) -> Result<Entry, FieldFaul
 {
     let moment = read_moment(reader)?;
     match read_kind(reader)? {
-        Kind::File(kind) => {
-            let op = read_op(alloc, reader, kind)?;
-            Ok(Entry::Order(Command {
-                moment,
-                deed: Deed::File(op),
-            }))
-        }
-        Kind::Quota(kind) => {
-            let deed = read_quota_deed(alloc, reader, kind)?;
-            Ok(Entry::Order(Command {
-                moment,
-                deed: Deed::Quota(Boxed::new(alloc, deed)?),
-            }))
-        }
-        Kind::Template(kind) => {
-            let deed = read_template_deed(alloc, reader, kind)?;
-            Ok(Entry::Order(Command {
-                moment,
-                deed: Deed::Template(Boxed::new(alloc, deed)?),
-            }))
-        }
-        Kind::Setting(kind) => {
-            let deed = read_setting(reader, kind)?;
-            Ok(Entry::Order(Command {
-                moment,
-                deed: Deed::Admin(deed),
-            }))
+        Kind::Deed(kind) => {
+            let deed = read_deed(alloc, reader, kind)?;
+            Ok(Entry::Order(Command { moment, deed }))
         }
         Kind::Finish => {
             let folder = read_folder(reader)?;

@@ -4,19 +4,14 @@ ghost use Rattle.std.specs.Prelude.{◌≡◌};
 ghost use Rattle.record_fields.specs.Readers.{Shows};
 ghost use Rattle.record_codec.specs.Entries.{kind_of, entry_kind};
 
-use crate::files::FileKind;
-use crate::quotas::QuotaKind;
-use crate::settings::SettingKind;
-use crate::templates::TemplateKind;
+use crate::deeds::DeedKind;
 use record_fields::{Flaw, Reader};
 
 /// The kind of an entry, by which a reader of the journal knows what was done.
 #[derive(Clone, Copy, Debug, PartialEq, Eq)]
 pub enum Kind {
-    File(FileKind),
-    Quota(QuotaKind),
-    Template(TemplateKind),
-    Setting(SettingKind),
+    /// A command was done.
+    Deed(DeedKind),
     /// The scan of a folder was finished.
     Finish,
 }
@@ -26,17 +21,8 @@ impl Kind {
     pub fn of(byte: u8) -> Option<Kind>
         ensures { result ≡ kind_of byte }
     {
-        if let Some(kind) = FileKind::of(byte) {
-            return Some(Kind::File(kind));
-        }
-        if let Some(kind) = QuotaKind::of(byte) {
-            return Some(Kind::Quota(kind));
-        }
-        if let Some(kind) = TemplateKind::of(byte) {
-            return Some(Kind::Template(kind));
-        }
-        if let Some(kind) = SettingKind::of(byte) {
-            return Some(Kind::Setting(kind));
+        if let Some(kind) = DeedKind::of(byte) {
+            return Some(Kind::Deed(kind));
         }
         match byte {
             99 => Some(Kind::Finish),

@@ -7,11 +7,15 @@
 //! Each family of commands has a file of its own here and in `specs`: its kinds, and how the values of each are spelled.
 #![tactic(auto)]
 
+mod autoquotas;
 mod decoding;
+mod deeds;
 mod encoding;
 mod entry;
+mod exceptions;
 mod fault;
 mod fields;
+mod filegroups;
 mod files;
 mod kinds;
 pub mod laws;
@@ -19,20 +23,26 @@ mod notices;
 mod numbers;
 mod paths;
 mod quotas;
+mod screens;
 mod settings;
 mod templates;
 mod typed;
 
+pub use autoquotas::AutoquotaKind;
 pub use decoding::decode;
+pub use deeds::DeedKind;
 pub use encoding::encode;
 pub use entry::EntryRef;
+pub use exceptions::ExceptionKind;
 pub use fault::CodecFault;
 pub use fields::{
     ActionTextField, LimitField, NameField, ObjectNameField, PatternField, PercentField,
 };
+pub use filegroups::FilegroupKind;
 pub use files::FileKind;
 pub use kinds::Kind;
 pub use notices::ActionKindField;
 pub use quotas::QuotaKind;
+pub use screens::ScreenKind;
 pub use settings::SettingKind;
 pub use templates::TemplateKind;

@@ -41,6 +41,21 @@ impl Typed for OwnText {
     }
 }
 
+/// Texts of their own, after their count.
+pub struct OwnTexts;
+
+impl Typed for OwnTexts {
+    type Value = List<Text>;
+
+    ghost spell = { listed_spelled (number_spelled 2) text_spelled };
+
+    ghost typed = { all_typed is_utf8 };
+
+    fn put(value: &List<Text>, into: &mut [u8], at: usize) -> usize {
+        put_all::<OwnText>(value, into, at)
+    }
+}
+
 /// Writes a value that may be left out.
 pub fn put_some<T: Typed>(value: &Option<T::Value>, into: &mut [u8], at: usize) -> usize
     requires { at ≤ length into.old }

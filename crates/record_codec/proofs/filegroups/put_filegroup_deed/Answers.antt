@@ -1,0 +1,14 @@
+use Rattle.record_fields.proofs.WriterLaws.{writes_then, writes_nothing}
+use Rattle.record_codec.proofs.filegroups.put_filegroup_deed.Goals as goal
+
+pub returns-in-Add-clause-written : goal.returns-in-Add-clause-written
+returns-in-Add-clause-written c = rw c.in-Add.is (writes_then c.put_u8-after.ensures c.put_new_filegroup.ensures.written)
+
+pub returns-in-Modify-clause-written : goal.returns-in-Modify-clause-written
+returns-in-Modify-clause-written c = rw c.in-Modify.is (writes_then c.put_u8-after-in-Modify.ensures c.put_filegroup_change.ensures.written)
+
+pub returns-in-Delete-clause-written : goal.returns-in-Delete-clause-written
+returns-in-Delete-clause-written c = rw c.in-Delete.is (writes_then c.put_u8-after-in-Delete.ensures c.put.ensures.written)
+
+pub returns-in-List-clause-written : goal.returns-in-List-clause-written
+returns-in-List-clause-written c = rw c.in-List.is (writes_nothing c.requires)
