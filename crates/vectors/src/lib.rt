@@ -15,6 +15,8 @@ mod audits;
 #[cfg(test)]
 mod chances;
 #[cfg(test)]
+mod codec_entries;
+#[cfg(test)]
 mod crashes;
 #[cfg(test)]
 mod devices;
