@@ -1,0 +1,115 @@
+-- The laws of values that stand for numbers.
+use Rattle.std.proofs.Common.{◌≡◌, ℕ, ◌-◌, ◌^◌, ◌<◌, ◌≤◌, Bool, true, false, cond, Option, Some, None, refl, sym, ap, subst, ◌∙◌, arith, inl, inr}
+use Rattle.std.specs.Prelude.{ℤ, pos, negsuc, nat_lt, nat_eq}
+use Rattle.std.proofs.lemmas.Bool.{eqb-true, ltb-true, ltb-false, lt-ltb, le-ltb}
+use Rattle.fsrm_model.specs.declared.row.ActionKind.{ActionKind}
+use Rattle.fsrm_model.specs.declared.row.ActionKind.TheVariants.{Event, Mail, Program, Report}
+use Rattle.fsrm_model.specs.declared.row.QuotaState.{QuotaState}
+use Rattle.fsrm_model.specs.declared.row.QuotaState.TheVariants.{Complete, Disabled, Rebuilding, Incomplete}
+use Rattle.fsrm_model.specs.declared.row.ReportKind.{ReportKind}
+use Rattle.fsrm_model.specs.declared.row.ReportKind.TheVariants.{LargeFiles, FilesByType, LeastRecentlyAccessed, MostRecentlyAccessed, QuotaUsage, FilesByOwner, DuplicateFiles, FileScreenAudit}
+use Rattle.record_fields.specs.Formats.{number}
+use Rattle.record_fields.specs.Laws.{Places}
+use Rattle.record_fields.proofs.NumberLaws.{width_1, width_4, number_exact, number_field}
+use Rattle.record_fields.proofs.StandingLaws.{picked, standing_field_places}
+use Rattle.image_codec.specs.Choices.{action_kind, action_kind_of, action_kind_code, minutes, minutes_of, minutes_code, has_32_bits, state, state_of, state_code, is_kept_state, report_kind, report_kind_of, report_kind_code}
+
+chosen : {X : Type 0} (P : X → Type 0) (t : Bool) (y x : X) (r : Option X) → (t ≡ true → P y) → (r ≡ Some x → P x) → cond t (Some y) r ≡ Some x → P x
+chosen P true y x r here there e = subst P (some_same y x e) (here refl)
+  where
+    some_same : {Y : Type 0} (a b : Y) → Some a ≡ Some b → a ≡ b
+    some_same a b e = cc
+chosen P false y x r here there e = there e
+
+action_kind_there : (k : ActionKind) → true ≡ true → action_kind_of (action_kind_code k) ≡ Some k
+action_kind_there Event may = refl
+action_kind_there Mail may = refl
+action_kind_there Program may = refl
+action_kind_there Report may = refl
+
+abbrev IsActionKind : ℕ → ActionKind → Type 0
+IsActionKind n k = (true ≡ true) × (action_kind_code k ≡ n)
+
+action_kind_home : (n : ℕ) (k : ActionKind) → action_kind_of n ≡ Some k → (true ≡ true) × (action_kind_code k ≡ n)
+action_kind_home n k =
+    chosen (IsActionKind n) (nat_eq n 1) Event k _ (λ e. (refl, sym (eqb-true n 1 e)))
+    (chosen (IsActionKind n) (nat_eq n 2) Mail k _ (λ e. (refl, sym (eqb-true n 2 e)))
+    (chosen (IsActionKind n) (nat_eq n 3) Program k _ (λ e. (refl, sym (eqb-true n 3 e)))
+    (chosen (IsActionKind n) (nat_eq n 4) Report k None (λ e. (refl, sym (eqb-true n 4 e))) (λ e. absurd (cc e)))))
+
+pub action_kind_places : Places action_kind
+action_kind_places = standing_field_places action_kind_of action_kind_code (λ k. true) (number 1) (number_exact 1 width_1) (number_field 1) action_kind_there action_kind_home Event refl refl
+
+minutes_there : (z : ℤ) → has_32_bits z ≡ true → minutes_of (minutes_code z) ≡ Some z
+minutes_there (pos n) may = rw may refl
+minutes_there (negsuc n) may =
+    let lt : n < 2 ^ 31 = ltb-true _ _ may in
+    let a : nat_lt (2 ^ 32 - 1 - n) (2 ^ 31) ≡ false = le-ltb _ _ (omega arith) in
+    let b : nat_lt (2 ^ 32 - 1 - n) (2 ^ 32) ≡ true = lt-ltb _ _ (omega arith) in
+    let c : 2 ^ 32 - 1 - (2 ^ 32 - 1 - n) ≡ n = omega arith in
+    rw (a, b, c) refl
+
+abbrev AreMinutes : ℕ → ℤ → Type 0
+AreMinutes n z = (has_32_bits z ≡ true) × (minutes_code z ≡ n)
+
+minutes_high : (n : ℕ) → nat_lt n (2 ^ 31) ≡ false → nat_lt n (2 ^ 32) ≡ true → AreMinutes n (negsuc (2 ^ 32 - 1 - n))
+minutes_high n low_test high_test =
+    let low : 2 ^ 31 ≤ n = ltb-false _ _ low_test in
+    let high : n < 2 ^ 32 = ltb-true _ _ high_test in
+    let small : nat_lt (2 ^ 32 - 1 - n) (2 ^ 31) ≡ true = lt-ltb _ _ (omega arith) in
+    let again : 2 ^ 32 - 1 - (2 ^ 32 - 1 - n) ≡ n = omega arith in
+    (small, again)
+
+minutes_home : (n : ℕ) (z : ℤ) → minutes_of n ≡ Some z → (has_32_bits z ≡ true) × (minutes_code z ≡ n)
+minutes_home n z e = elim (picked (nat_lt n (2 ^ 31)) (pos n) z _ e) [
+  | inl a ↦ (ap has_32_bits (sym a.1) ∙ a.0, ap minutes_code (sym a.1))
+  | inr p ↦ chosen (AreMinutes n) (nat_lt n (2 ^ 32)) (negsuc (2 ^ 32 - 1 - n)) z None (minutes_high n p.0) (λ none. absurd (cc none)) p.1
+]
+
+pub minutes_places : Places minutes
+minutes_places = standing_field_places minutes_of minutes_code has_32_bits (number 4) (number_exact 4 width_4) (number_field 4) minutes_there minutes_home (pos 0) refl refl
+
+state_there : (s : QuotaState) → is_kept_state s ≡ true → state_of (state_code s) ≡ Some s
+state_there Complete may = refl
+state_there Disabled may = refl
+state_there Rebuilding may = absurd (cc may)
+state_there Incomplete may = refl
+
+abbrev IsState : ℕ → QuotaState → Type 0
+IsState n s = (is_kept_state s ≡ true) × (state_code s ≡ n)
+
+state_home : (n : ℕ) (s : QuotaState) → state_of n ≡ Some s → (is_kept_state s ≡ true) × (state_code s ≡ n)
+state_home n s =
+    chosen (IsState n) (nat_eq n 0) Complete s _ (λ e. (refl, sym (eqb-true n 0 e)))
+    (chosen (IsState n) (nat_eq n 1) Disabled s _ (λ e. (refl, sym (eqb-true n 1 e)))
+    (chosen (IsState n) (nat_eq n 2) Incomplete s None (λ e. (refl, sym (eqb-true n 2 e))) (λ e. absurd (cc e))))
+
+pub state_places : Places state
+state_places = standing_field_places state_of state_code is_kept_state (number 1) (number_exact 1 width_1) (number_field 1) state_there state_home Complete refl refl
+
+report_kind_there : (k : ReportKind) → true ≡ true → report_kind_of (report_kind_code k) ≡ Some k
+report_kind_there LargeFiles may = refl
+report_kind_there FilesByType may = refl
+report_kind_there LeastRecentlyAccessed may = refl
+report_kind_there MostRecentlyAccessed may = refl
+report_kind_there QuotaUsage may = refl
+report_kind_there FilesByOwner may = refl
+report_kind_there DuplicateFiles may = refl
+report_kind_there FileScreenAudit may = refl
+
+abbrev IsReportKind : ℕ → ReportKind → Type 0
+IsReportKind n k = (true ≡ true) × (report_kind_code k ≡ n)
+
+report_kind_home : (n : ℕ) (k : ReportKind) → report_kind_of n ≡ Some k → (true ≡ true) × (report_kind_code k ≡ n)
+report_kind_home n k =
+    chosen (IsReportKind n) (nat_eq n 1) LargeFiles k _ (λ e. (refl, sym (eqb-true n 1 e)))
+    (chosen (IsReportKind n) (nat_eq n 2) FilesByType k _ (λ e. (refl, sym (eqb-true n 2 e)))
+    (chosen (IsReportKind n) (nat_eq n 3) LeastRecentlyAccessed k _ (λ e. (refl, sym (eqb-true n 3 e)))
+    (chosen (IsReportKind n) (nat_eq n 4) MostRecentlyAccessed k _ (λ e. (refl, sym (eqb-true n 4 e)))
+    (chosen (IsReportKind n) (nat_eq n 5) QuotaUsage k _ (λ e. (refl, sym (eqb-true n 5 e)))
+    (chosen (IsReportKind n) (nat_eq n 6) FilesByOwner k _ (λ e. (refl, sym (eqb-true n 6 e)))
+    (chosen (IsReportKind n) (nat_eq n 7) DuplicateFiles k _ (λ e. (refl, sym (eqb-true n 7 e)))
+    (chosen (IsReportKind n) (nat_eq n 8) FileScreenAudit k None (λ e. (refl, sym (eqb-true n 8 e))) (λ e. absurd (cc e)))))))))
+
+pub report_kind_places : Places report_kind
+report_kind_places = standing_field_places report_kind_of report_kind_code (λ k. true) (number 1) (number_exact 1 width_1) (number_field 1) report_kind_there report_kind_home LargeFiles refl refl

@@ -1,0 +1,86 @@
+-- Values of rows that stand for numbers.
+use Rattle.std.specs.Prelude.{ℕ, ◌-◌, ◌^◌, ◌==◌, nat_lt, Bool, true, false, ℤ, pos, negsuc, Option, Some, None, if◌then◌else◌}
+use Rattle.fsrm_model.specs.declared.row.ActionKind.{ActionKind}
+use Rattle.fsrm_model.specs.declared.row.ActionKind.TheVariants.{Event, Mail, Program, Report}
+use Rattle.fsrm_model.specs.declared.row.QuotaState.{QuotaState}
+use Rattle.fsrm_model.specs.declared.row.QuotaState.TheVariants.{Complete, Disabled, Rebuilding, Incomplete}
+use Rattle.fsrm_model.specs.declared.row.ReportKind.{ReportKind}
+use Rattle.fsrm_model.specs.declared.row.ReportKind.TheVariants.{LargeFiles, FilesByType, LeastRecentlyAccessed, MostRecentlyAccessed, QuotaUsage, FilesByOwner, DuplicateFiles, FileScreenAudit}
+use Rattle.record_fields.specs.Formats.{Format, number, standing, choice}
+
+-- what an action does, in one byte
+abbrev pub action_kind_of : ℕ → Option ActionKind
+action_kind_of n =
+    if n == 1 then Some Event
+    else if n == 2 then Some Mail
+    else if n == 3 then Some Program
+    else if n == 4 then Some Report else None
+
+abbrev pub action_kind_code : ActionKind → ℕ
+action_kind_code Event = 1
+action_kind_code Mail = 2
+action_kind_code Program = 3
+action_kind_code Report = 4
+
+abbrev pub action_kind : Format ActionKind
+action_kind = choice action_kind_of action_kind_code (λ k. true)
+
+-- minutes, in two's complement in four bytes
+abbrev pub minutes_of : ℕ → Option ℤ
+minutes_of n = if nat_lt n (2 ^ 31) then Some (pos n) else if nat_lt n (2 ^ 32) then Some (negsuc (2 ^ 32 - 1 - n)) else None
+
+abbrev pub minutes_code : ℤ → ℕ
+minutes_code (pos n) = n
+minutes_code (negsuc n) = 2 ^ 32 - 1 - n
+
+abbrev pub has_32_bits : ℤ → Bool
+has_32_bits (pos n) = nat_lt n (2 ^ 31)
+has_32_bits (negsuc n) = nat_lt n (2 ^ 31)
+
+abbrev pub minutes : Format ℤ
+minutes = standing minutes_of minutes_code has_32_bits (number 4)
+
+-- the state of a quota. One that is rebuilt has no spelling of its own: it is written as incomplete, and so isn't read again
+abbrev pub state_of : ℕ → Option QuotaState
+state_of n =
+    if n == 0 then Some Complete
+    else if n == 1 then Some Disabled
+    else if n == 2 then Some Incomplete else None
+
+abbrev pub state_code : QuotaState → ℕ
+state_code Complete = 0
+state_code Disabled = 1
+state_code Rebuilding = 2
+state_code Incomplete = 2
+
+abbrev pub is_kept_state : QuotaState → Bool
+is_kept_state Rebuilding = false
+is_kept_state other = true
+
+abbrev pub state : Format QuotaState
+state = choice state_of state_code is_kept_state
+
+-- what a report is about
+abbrev pub report_kind_of : ℕ → Option ReportKind
+report_kind_of n =
+    if n == 1 then Some LargeFiles
+    else if n == 2 then Some FilesByType
+    else if n == 3 then Some LeastRecentlyAccessed
+    else if n == 4 then Some MostRecentlyAccessed
+    else if n == 5 then Some QuotaUsage
+    else if n == 6 then Some FilesByOwner
+    else if n == 7 then Some DuplicateFiles
+    else if n == 8 then Some FileScreenAudit else None
+
+abbrev pub report_kind_code : ReportKind → ℕ
+report_kind_code LargeFiles = 1
+report_kind_code FilesByType = 2
+report_kind_code LeastRecentlyAccessed = 3
+report_kind_code MostRecentlyAccessed = 4
+report_kind_code QuotaUsage = 5
+report_kind_code FilesByOwner = 6
+report_kind_code DuplicateFiles = 7
+report_kind_code FileScreenAudit = 8
+
+abbrev pub report_kind : Format ReportKind
+report_kind = choice report_kind_of report_kind_code (λ k. true)
