@@ -1,0 +1,12 @@
+use Rattle.std.proofs.Common.{refl, arith}
+use Rattle.fsrm_base.proofs.TestLaws.{both, both_true}
+use Rattle.record_fields.proofs.WriterLaws.{writes_then}
+use Rattle.fsrm_model.specs.values.Limits.{most_screen_groups}
+use Rattle.image_codec.proofs.objects.put_except.Goals as goal
+
+pub returns-clause-written : goal.returns-clause-written
+returns-clause-written c =
+    writes_then c.put-folder_end.ensures.written c.put_rows.ensures.written
+
+pub returns-clause-legal : goal.returns-clause-legal
+returns-clause-legal c = λ meets. both_true _ _ (c.put-folder_end.ensures.legal refl) (c.put_rows.ensures.legal most_screen_groups (omega arith) meets)

@@ -1,0 +1,122 @@
+-- The pieces of which an image consists: what comes first, the count of each list, and its rows.
+use Rattle.std.specs.Prelude.{ℕ, ◌&&◌, Bool, true, List, [], ◌∷◌, ◌++◌, length, map}
+use Rattle.fsrm_model.specs.declared.row.ActRow.{ActRow}
+use Rattle.fsrm_model.specs.declared.row.AuditRow.{AuditRow}
+use Rattle.fsrm_model.specs.declared.row.AutoRow.{AutoRow}
+use Rattle.fsrm_model.specs.declared.row.ExceptRow.{ExceptRow}
+use Rattle.fsrm_model.specs.declared.row.GroupRow.{GroupRow}
+use Rattle.fsrm_model.specs.declared.row.JobRow.{JobRow}
+use Rattle.fsrm_model.specs.declared.row.NodeRow.{NodeRow}
+use Rattle.fsrm_model.specs.declared.row.QuotaRow.{QuotaRow}
+use Rattle.fsrm_model.specs.declared.row.Rows.{Rows}
+use Rattle.fsrm_model.specs.declared.row.ScreenRow.{ScreenRow}
+use Rattle.fsrm_model.specs.declared.row.TemplateRow.{TemplateRow}
+use Rattle.fsrm_model.specs.store.Lasting.{flagged_quota}
+use Rattle.record_fields.specs.Formats.{number_spelled, number_legal}
+use Rattle.image_codec.specs.declared.row_ref.RowRef.{RowRef}
+use Rattle.image_codec.specs.declared.row_ref.RowRef.TheVariants as lent_row
+use Rattle.image_codec.specs.Parts.{is_short, quota_meets, template_meets, auto_meets, group_meets, screen_meets, except_meets, job_meets}
+use Rattle.image_codec.specs.Rows.{node, quota, template, auto, group, screen, except, job, act, audit}
+
+pub data Piece : Type 0 where
+  StartPiece : (last_moment run_limit : ℕ) → Piece
+  CountPiece : (count : ℕ) → Piece
+  NodePiece : (row : NodeRow) → Piece
+  QuotaPiece : (row : QuotaRow) → Piece
+  TemplatePiece : (row : TemplateRow) → Piece
+  AutoPiece : (row : AutoRow) → Piece
+  GroupPiece : (row : GroupRow) → Piece
+  ScreenPiece : (row : ScreenRow) → Piece
+  ExceptPiece : (row : ExceptRow) → Piece
+  JobPiece : (row : JobRow) → Piece
+  ActPiece : (row : ActRow) → Piece
+  AuditPiece : (row : AuditRow) → Piece
+
+-- the piece that is lent
+abbrev pub lent : RowRef → Piece
+lent (lent_row.Start last_moment run_limit) = StartPiece last_moment run_limit
+lent (lent_row.Count count) = CountPiece count
+lent (lent_row.Node number parent name folder length owner created modified accessed) =
+    NodePiece
+    (record {
+      number = number;
+      parent = parent;
+      name = name.now;
+      folder = folder;
+      length = length;
+      owner = owner;
+      created = created;
+      modified = modified;
+      accessed = accessed;
+    })
+lent (lent_row.Quota row) = QuotaPiece row.now
+lent (lent_row.Template row) = TemplatePiece row.now
+lent (lent_row.Auto row) = AutoPiece row.now
+lent (lent_row.Group row) = GroupPiece row.now
+lent (lent_row.Screen row) = ScreenPiece row.now
+lent (lent_row.Except row) = ExceptPiece row.now
+lent (lent_row.Job row) = JobPiece row.now
+lent (lent_row.Act row) = ActPiece row
+lent (lent_row.Audit moment active owner folder screen name) =
+    AuditPiece
+    (record { moment = moment; active = active; owner = owner; folder = folder; screen = screen; name = name.now })
+
+-- How a piece is spelled. A quota that is rebuilt is spelled as incomplete
+abbrev pub piece_spelled : Piece → List ℕ
+piece_spelled (StartPiece last_moment run_limit) = number_spelled 8 last_moment ++ number_spelled 4 run_limit
+piece_spelled (CountPiece count) = number_spelled 4 count
+piece_spelled (NodePiece row) = node.spell row
+piece_spelled (QuotaPiece row) = quota.spell (flagged_quota row)
+piece_spelled (TemplatePiece row) = template.spell row
+piece_spelled (AutoPiece row) = auto.spell row
+piece_spelled (GroupPiece row) = group.spell row
+piece_spelled (ScreenPiece row) = screen.spell row
+piece_spelled (ExceptPiece row) = except.spell row
+piece_spelled (JobPiece row) = job.spell row
+piece_spelled (ActPiece row) = act.spell row
+piece_spelled (AuditPiece row) = audit.spell row
+
+-- whether it is read again
+abbrev pub piece_legal : Piece → Bool
+piece_legal (StartPiece last_moment run_limit) = number_legal 8 last_moment && number_legal 4 run_limit
+piece_legal (CountPiece count) = number_legal 4 count
+piece_legal (NodePiece row) = node.legal row
+piece_legal (QuotaPiece row) = quota.legal (flagged_quota row)
+piece_legal (TemplatePiece row) = template.legal row
+piece_legal (AutoPiece row) = auto.legal row
+piece_legal (GroupPiece row) = group.legal row
+piece_legal (ScreenPiece row) = screen.legal row
+piece_legal (ExceptPiece row) = except.legal row
+piece_legal (JobPiece row) = job.legal row
+piece_legal (ActPiece row) = act.legal row
+piece_legal (AuditPiece row) = audit.legal row
+
+-- whether it meets the limits of rows
+abbrev pub piece_meets : Piece → Bool
+piece_meets (NodePiece row) = is_short row.name
+piece_meets (QuotaPiece row) = quota_meets row
+piece_meets (TemplatePiece row) = template_meets row
+piece_meets (AutoPiece row) = auto_meets row
+piece_meets (GroupPiece row) = group_meets row
+piece_meets (ScreenPiece row) = screen_meets row
+piece_meets (ExceptPiece row) = except_meets row
+piece_meets (JobPiece row) = job_meets row
+piece_meets (AuditPiece row) = is_short row.name
+piece_meets other = true
+
+-- ---- all pieces of rows, in order
+abbrev pub list_pieces : {X : Type 0} → (X → Piece) → List X → List Piece
+list_pieces make xs = CountPiece (length xs) ∷ map make xs
+
+abbrev pub pieces : Rows → List Piece
+pieces R =
+    StartPiece R.last_moment R.run_limit
+    ∷ (list_pieces NodePiece R.nodes
+    ++ (list_pieces QuotaPiece R.quotas
+    ++ (list_pieces TemplatePiece R.templates
+    ++ (list_pieces AutoPiece R.autos
+    ++ (list_pieces GroupPiece R.groups
+    ++ (list_pieces ScreenPiece R.screens
+    ++ (list_pieces ExceptPiece R.excepts
+    ++ (list_pieces JobPiece R.jobs
+    ++ (list_pieces ActPiece R.acts ++ list_pieces AuditPiece R.audits)))))))))
