@@ -1,3 +1,10 @@
 pub mod ChoiceLaws
+pub mod ImageInLaws
+pub mod ImageReads
+pub mod LengthLaws
 pub mod PartLaws
+pub mod PieceLaws
 pub mod RowLaws
+pub mod SectionLaws
+pub mod ValidLaws
+pub mod WholeImages

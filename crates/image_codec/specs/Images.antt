@@ -1,6 +1,6 @@
 -- Images: all rows that are kept, in one spelling. The moment of the last command and the run limit come first, then ten
 -- lists. The queue and the unvisited folders aren't written, and are read as empty.
-use Rattle.std.specs.Prelude.{ℕ, ◌-◌, ◌&&◌, ◌==◌, Bool, List, [], length, Option, Some, Result, Ok, Err, if◌then◌else◌}
+use Rattle.std.specs.Prelude.{ℕ, ◌-◌, ◌&&◌, ◌==◌, Bool, List, [], length, take, Option, Some, Result, Ok, Err, if◌then◌else◌}
 use Rattle.fsrm_model.specs.declared.row.ActRow.{ActRow}
 use Rattle.fsrm_model.specs.declared.row.AuditRow.{AuditRow}
 use Rattle.fsrm_model.specs.declared.row.AutoRow.{AutoRow}
@@ -59,10 +59,11 @@ image =
     (number 8 ⊗ number 4 ⊗ rows node ⊗ rows quota ⊗ rows template ⊗ rows auto ⊗ rows group ⊗ rows screen ⊗ rows except ⊗ rows job ⊗ rows act ⊗ rows audit)
 
 -- The rows that bytes spell, if their image has so many bytes, or the place of the first byte that is wrong: the first
--- field's that isn't there whole or isn't legal, or the one right after a whole spelling that hasn't this length
-abbrev pub of_length : ℕ → ℕ → Read Rows → Result Rows ℕ
-of_length len size (Ok r) = if (size == len) && (length r.1 == 0) then Ok r.0 else Err (size - length r.1)
-of_length len size (Err flaw) = Err (size - left_of flaw)
+-- field's that isn't there whole or isn't legal, or the one right after a whole spelling that is shorter. What follows
+-- so many bytes isn't read
+abbrev pub of_length : Bool → ℕ → Read Rows → Result Rows ℕ
+of_length is_all size (Ok r) = if is_all && (length r.1 == 0) then Ok r.0 else Err (size - length r.1)
+of_length is_all size (Err flaw) = Err (size - left_of flaw)
 
 abbrev pub image_in : ℕ → List ℕ → Result Rows ℕ
-image_in len bytes = of_length len (length bytes) (image.read bytes)
+image_in len bytes = of_length (length bytes == len) (length (take len bytes)) (image.read (take len bytes))

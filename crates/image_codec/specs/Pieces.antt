@@ -104,6 +104,10 @@ piece_meets (JobPiece row) = job_meets row
 piece_meets (AuditPiece row) = is_short row.name
 piece_meets other = true
 
+-- the bytes of the longest piece whose rows meet their limits are no more than this
+abbrev pub longest_piece : ℕ
+longest_piece = 262144
+
 -- ---- all pieces of rows, in order
 abbrev pub list_pieces : {X : Type 0} → (X → Piece) → List X → List Piece
 list_pieces make xs = CountPiece (length xs) ∷ map make xs

@@ -2,7 +2,7 @@
 
 ghost use Rattle.std.specs.Prelude.{◌≡◌, ◌≤◌, true, length, take};
 ghost use Rattle.record_fields.specs.Writers.{Writes};
-ghost use Rattle.image_codec.specs.Pieces.{lent, piece_spelled, piece_meets, piece_legal};
+ghost use Rattle.image_codec.specs.Pieces.{lent, longest_piece, piece_spelled, piece_meets, piece_legal};
 
 use crate::jobs::put_job;
 use crate::logs::{AuditRef, put_act, put_audit};
@@ -11,6 +11,19 @@ use crate::objects::{put_auto, put_except, put_group, put_quota, put_screen, put
 use crate::parts::Part;
 use crate::row_ref::RowRef;
 use record_fields::{U32Field, U64Field};
+
+/// Writes a piece from the first byte on, and answers its length. A quota that is rebuilt is written as incomplete. What
+/// is written is legal, so it is read again.
+pub fn encode_row(row: &RowRef<'_>, into: &mut [u8]) -> usize
+    requires meets { piece_meets (lent row.now) ≡ true }
+    requires room { longest_piece ≤ length into.old }
+    ensures legal { piece_legal (lent row.now) ≡ true }
+    ensures written { take result into.new ≡ piece_spelled (lent row.now) }
+    ensures length { result ≡ length (piece_spelled (lent row.now)) }
+    ensures short { result ≤ longest_piece }
+{
+    put_piece(row, into)
+}
 
 // Writes a piece from the first byte on, as far as there is room.
 fn put_piece(piece: &RowRef<'_>, into: &mut [u8]) -> usize

@@ -1,0 +1,172 @@
+//! Reading an image that comes in pieces.
+
+ghost use Rattle.std.specs.Prelude.{◌≡◌, ◌≤◌, ◌+◌, ◌-◌, ◌++◌, [], List as Items, ℕ, length, IfOk, IfErr, Err};
+ghost use Rattle.record_fields.specs.declared.flaw.Flaw.TheVariants.{Illegal as IllegalFlaw};
+ghost use Rattle.image_codec.specs.declared.fault.CodecFault.TheVariants.{BadRecord, NoMemory};
+ghost use Rattle.image_codec.specs.ImageIn.{AreRead, ReadsOn, past_end, resumed, outcome};
+ghost use Rattle.image_codec.specs.Images.{image_in};
+ghost use Rattle.image_codec.specs.Sections.{Pauses, no_rows};
+
+use crate::fault::CodecFault;
+use crate::reading::go_on;
+use crate::section::Section;
+use fsrm_base::List;
+use fsrm_model::Rows;
+use record_fields::{FieldFault, Flaw};
+use std::alloc::Global;
+
+/// How many bytes of a row that hasn't come whole are held. No row of a store has more.
+const LONGEST_ROW: usize = 262_144;
+
+/// A reader of an image that comes in pieces. It holds the rows that were read, and the bytes of the next one.
+#[derive(Drop)]
+pub struct ImageIn {
+    alloc: Global,
+    len: u64,
+    came: u64,
+    section: Section,
+    still: usize,
+    held: Vec<u8>,
+    rows: Rows,
+}
+
+impl ImageIn {
+    /// A reader of an image of so many bytes.
+    pub fn new(alloc: Global, len: u64) -> ImageIn
+        ensures { (bytes : Items ℕ) → outcome result bytes ≡ image_in len bytes }
+    {
+        ImageIn {
+            alloc,
+            len,
+            came: 0,
+            section: Section::Start,
+            still: 1,
+            held: Vec::new(alloc),
+            rows: no_rows(alloc),
+        }
+    }
+
+    /// Takes the next piece. After a fault it isn't called again.
+    pub fn feed(&mut self, bytes: &[u8]) -> Result<(), CodecFault>
+        // Whatever follows, what is answered is what was to be answered.
+        ensures goes_on { IfOk result (λ u. (more : Items ℕ) → outcome self.new more ≡ outcome self.old (bytes.now ++ more)) }
+        // Damage is told as soon as no bytes that follow can mend it.
+        ensures damaged { (place : ℕ) → result ≡ Err (BadRecord place) → (more : Items ℕ) → outcome self.old (bytes.now ++ more) ≡ Err place }
+    {
+        let room = self.len.saturating_sub(self.came);
+        let count = (bytes.len() as u64).min(room) as usize;
+        let (own, beyond) = bytes.split_at(count);
+        let cut = match self.read_on(own) {
+            Ok(cut) => cut,
+            Err(fault) => return Err(fault),
+        };
+        let held = self.held.as_slice().len();
+        if is_past_end(cut, held, beyond.len()) {
+            return Err(bad_record(self.came, cut.unwrap_or(held)));
+        }
+        Ok(())
+    }
+
+    /// The rows, if all bytes came, and they spell an image.
+    pub fn finish(self) -> Result<Rows, CodecFault>
+        ensures { AreRead result (outcome self []) }
+    {
+        let mut reader = self;
+        let cut = reader.read_on(&[])?;
+        let held = reader.held.as_slice().len();
+        if cut.is_some() || held > 0 || reader.came != reader.len {
+            return Err(bad_record(reader.came, cut.unwrap_or(held)));
+        }
+        Ok(reader.rows)
+    }
+
+    // Takes bytes that aren't more than those that are still to come. Answers how many of the bytes that are held then
+    // are left from the field on that is cut short, or None at the end of the image.
+    fn read_on(&mut self, own: &[u8]) -> Result<Option<usize>, CodecFault>
+        requires { length own.now ≤ self.old.len - self.old.came }
+        ensures reads { IfOk result (λ cut. ReadsOn self.old own.now self.new) }
+        ensures pauses { IfOk result (λ cut. Pauses self.new.section self.new.rows self.new.still self.new.held.items cut) }
+        ensures damaged { (place : ℕ) → result ≡ Err (BadRecord place) → (left : ℕ) × (place ≡ self.old.came + length own.now - left) × ((more : Items ℕ) → resumed self.old (own.now ++ more) ≡ Err (IllegalFlaw (left + length more))) }
+    {
+        let mut bytes = copied(self.alloc, self.held.as_slice())?;
+        extend(&mut bytes, own)?;
+        self.came += own.len() as u64;
+        match go_on(
+            self.alloc,
+            &mut self.rows,
+            self.section,
+            self.still,
+            bytes.as_slice(),
+        ) {
+            Ok(pause) => {
+                if pause.cut.is_some() && pause.rest.len() > LONGEST_ROW {
+                    return Err(CodecFault::NoMemory);
+                }
+                self.held = copied(self.alloc, pause.rest)?;
+                self.section = pause.section;
+                self.still = pause.still;
+                Ok(pause.cut)
+            }
+            Err(FieldFault::Flawed(Flaw::Illegal { left })) => Err(bad_record(self.came, left)),
+            Err(FieldFault::Flawed(Flaw::Truncated { left: _ })) => unreachable!(),
+            Err(FieldFault::NoMemory) => Err(CodecFault::NoMemory),
+        }
+    }
+}
+
+// Whether bytes follow those of a whole image: some that are held, or some past its length.
+fn is_past_end(cut: Option<usize>, held: usize, beyond: usize) -> bool
+    ensures { result ≡ past_end cut held beyond }
+{
+    beyond > 0 || (cut.is_none() && held > 0)
+}
+
+// So many bytes before those that came end.
+fn bad_record(came: u64, left: usize) -> CodecFault
+    ensures { result ≡ BadRecord (came - left) }
+{
+    CodecFault::BadRecord {
+        place: came.saturating_sub(left as u64),
+    }
+}
+
+fn copied(alloc: Global, bytes: &[u8]) -> Result<Vec<u8>, CodecFault>
+    ensures ok { IfOk result (λ copy. copy.items ≡ bytes.now) }
+    ensures err { IfErr result (λ fault. fault ≡ NoMemory) }
+{
+    match Vec::from_slice(alloc, bytes) {
+        Ok(copy) => Ok(copy),
+        Err(_) => Err(CodecFault::NoMemory),
+    }
+}
+
+fn extend(bytes: &mut Vec<u8>, more: &[u8]) -> Result<(), CodecFault>
+    ensures ok { IfOk result (λ u. bytes.new.items ≡ bytes.old.items ++ more.now) }
+    ensures err { IfErr result (λ fault. fault ≡ NoMemory) }
+{
+    match bytes.extend_from_slice(more) {
+        Ok(()) => Ok(()),
+        Err(_) => Err(CodecFault::NoMemory),
+    }
+}
+
+fn no_rows(alloc: Global) -> Rows
+    ensures { result ≡ no_rows }
+{
+    Rows {
+        nodes: List::new(alloc),
+        quotas: List::new(alloc),
+        templates: List::new(alloc),
+        autos: List::new(alloc),
+        groups: List::new(alloc),
+        screens: List::new(alloc),
+        excepts: List::new(alloc),
+        jobs: List::new(alloc),
+        acts: List::new(alloc),
+        audits: List::new(alloc),
+        queue: List::new(alloc),
+        unvisited: List::new(alloc),
+        run_limit: 0,
+        last_moment: 0,
+    }
+}
