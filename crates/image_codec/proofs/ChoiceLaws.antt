@@ -2,8 +2,6 @@
 use Rattle.std.proofs.Common.{◌≡◌, ℕ, ◌-◌, ◌^◌, ◌<◌, ◌≤◌, Bool, true, false, cond, Option, Some, None, refl, sym, ap, subst, ◌∙◌, arith, inl, inr}
 use Rattle.std.specs.Prelude.{ℤ, pos, negsuc, nat_lt, nat_eq}
 use Rattle.std.proofs.lemmas.Bool.{eqb-true, ltb-true, ltb-false, lt-ltb, le-ltb}
-use Rattle.fsrm_model.specs.declared.row.ActionKind.{ActionKind}
-use Rattle.fsrm_model.specs.declared.row.ActionKind.TheVariants.{Event, Mail, Program, Report}
 use Rattle.fsrm_model.specs.declared.row.QuotaState.{QuotaState}
 use Rattle.fsrm_model.specs.declared.row.QuotaState.TheVariants.{Complete, Disabled, Rebuilding, Incomplete}
 use Rattle.fsrm_model.specs.declared.row.ReportKind.{ReportKind}
@@ -12,33 +10,8 @@ use Rattle.record_fields.specs.Formats.{number}
 use Rattle.record_fields.specs.Laws.{Places}
 use Rattle.record_fields.proofs.NumberLaws.{width_1, width_4, number_exact, number_field}
 use Rattle.record_fields.proofs.StandingLaws.{picked, standing_field_places}
-use Rattle.image_codec.specs.Choices.{action_kind, action_kind_of, action_kind_code, minutes, minutes_of, minutes_code, has_32_bits, state, state_of, state_code, is_kept_state, report_kind, report_kind_of, report_kind_code}
-
-chosen : {X : Type 0} (P : X → Type 0) (t : Bool) (y x : X) (r : Option X) → (t ≡ true → P y) → (r ≡ Some x → P x) → cond t (Some y) r ≡ Some x → P x
-chosen P true y x r here there e = subst P (some_same y x e) (here refl)
-  where
-    some_same : {Y : Type 0} (a b : Y) → Some a ≡ Some b → a ≡ b
-    some_same a b e = cc
-chosen P false y x r here there e = there e
-
-action_kind_there : (k : ActionKind) → true ≡ true → action_kind_of (action_kind_code k) ≡ Some k
-action_kind_there Event may = refl
-action_kind_there Mail may = refl
-action_kind_there Program may = refl
-action_kind_there Report may = refl
-
-abbrev IsActionKind : ℕ → ActionKind → Type 0
-IsActionKind n k = (true ≡ true) × (action_kind_code k ≡ n)
-
-action_kind_home : (n : ℕ) (k : ActionKind) → action_kind_of n ≡ Some k → (true ≡ true) × (action_kind_code k ≡ n)
-action_kind_home n k =
-    chosen (IsActionKind n) (nat_eq n 1) Event k _ (λ e. (refl, sym (eqb-true n 1 e)))
-    (chosen (IsActionKind n) (nat_eq n 2) Mail k _ (λ e. (refl, sym (eqb-true n 2 e)))
-    (chosen (IsActionKind n) (nat_eq n 3) Program k _ (λ e. (refl, sym (eqb-true n 3 e)))
-    (chosen (IsActionKind n) (nat_eq n 4) Report k None (λ e. (refl, sym (eqb-true n 4 e))) (λ e. absurd (cc e)))))
-
-pub action_kind_places : Places action_kind
-action_kind_places = standing_field_places action_kind_of action_kind_code (λ k. true) (number 1) (number_exact 1 width_1) (number_field 1) action_kind_there action_kind_home Event refl refl
+use Rattle.record_codec.proofs.KindLaws.{chosen}
+use Rattle.image_codec.specs.Choices.{minutes, minutes_of, minutes_code, has_32_bits, state, state_of, state_code, is_kept_state, report_kind, report_kind_of, report_kind_code}
 
 minutes_there : (z : ℤ) → has_32_bits z ≡ true → minutes_of (minutes_code z) ≡ Some z
 minutes_there (pos n) may = rw may refl

@@ -12,8 +12,8 @@ use Rattle.record_fields.specs.Formats.{Read}
 use Rattle.record_fields.specs.declared.flaw.Flaw.TheVariants.{Truncated, Illegal}
 use Rattle.image_codec.specs.declared.image_in.ImageIn.{ImageIn}
 use Rattle.image_codec.specs.ImageIn.{resumed, own_bytes, outcome, past_end, AreRead, ReadsOn}
-use Rattle.image_codec.specs.declared.fault.CodecFault.{CodecFault}
-use Rattle.image_codec.specs.declared.fault.CodecFault.TheVariants.{BadRecord}
+use Rattle.record_codec.specs.declared.fault.CodecFault.{CodecFault}
+use Rattle.record_codec.specs.declared.fault.CodecFault.TheVariants.{BadRecord}
 use Rattle.image_codec.specs.Images.{image, image_in, of_length}
 use Rattle.image_codec.specs.Sections.{resume, no_rows, Pauses}
 use Rattle.image_codec.specs.declared.section.Section.TheVariants.{Start}

@@ -1,29 +1,10 @@
 -- Values of rows that stand for numbers.
 use Rattle.std.specs.Prelude.{ℕ, ◌-◌, ◌^◌, ◌==◌, nat_lt, Bool, true, false, ℤ, pos, negsuc, Option, Some, None, if◌then◌else◌}
-use Rattle.fsrm_model.specs.declared.row.ActionKind.{ActionKind}
-use Rattle.fsrm_model.specs.declared.row.ActionKind.TheVariants.{Event, Mail, Program, Report}
 use Rattle.fsrm_model.specs.declared.row.QuotaState.{QuotaState}
 use Rattle.fsrm_model.specs.declared.row.QuotaState.TheVariants.{Complete, Disabled, Rebuilding, Incomplete}
 use Rattle.fsrm_model.specs.declared.row.ReportKind.{ReportKind}
 use Rattle.fsrm_model.specs.declared.row.ReportKind.TheVariants.{LargeFiles, FilesByType, LeastRecentlyAccessed, MostRecentlyAccessed, QuotaUsage, FilesByOwner, DuplicateFiles, FileScreenAudit}
 use Rattle.record_fields.specs.Formats.{Format, number, standing, choice}
-
--- what an action does, in one byte
-abbrev pub action_kind_of : ℕ → Option ActionKind
-action_kind_of n =
-    if n == 1 then Some Event
-    else if n == 2 then Some Mail
-    else if n == 3 then Some Program
-    else if n == 4 then Some Report else None
-
-abbrev pub action_kind_code : ActionKind → ℕ
-action_kind_code Event = 1
-action_kind_code Mail = 2
-action_kind_code Program = 3
-action_kind_code Report = 4
-
-abbrev pub action_kind : Format ActionKind
-action_kind = choice action_kind_of action_kind_code (λ k. true)
 
 -- minutes, in two's complement in four bytes
 abbrev pub minutes_of : ℕ → Option ℤ

@@ -2,8 +2,8 @@
 use Rattle.std.specs.Prelude.{◌≡◌, ◌+◌, ◌-◌, ◌==◌, ◌&&◌, ◌||◌, nat_lt, ℕ, Bool, List, ◌++◌, length, take, Option, is_none, Result, Ok, Err}
 use Rattle.fsrm_model.specs.declared.row.Rows.{Rows}
 use Rattle.record_fields.specs.Formats.{Read}
-use Rattle.image_codec.specs.declared.fault.CodecFault.{CodecFault}
-use Rattle.image_codec.specs.declared.fault.CodecFault.TheVariants.{BadRecord, NoMemory}
+use Rattle.record_codec.specs.declared.fault.CodecFault.{CodecFault}
+use Rattle.record_codec.specs.declared.fault.CodecFault.TheVariants.{BadRecord, NoMemory}
 use Rattle.image_codec.specs.declared.image_in.ImageIn.{ImageIn}
 use Rattle.image_codec.specs.Images.{of_length}
 use Rattle.image_codec.specs.Sections.{resume}

@@ -5,10 +5,11 @@ ghost use Rattle.record_fields.specs.Writers.{Writes};
 ghost use Rattle.image_codec.specs.Parts.{action_meets, threshold_meets};
 ghost use Rattle.image_codec.specs.Rows.{action as action_format, threshold as threshold_format};
 
-use crate::choices::{put_action_kind, put_minutes, read_action_kind, read_minutes};
+use crate::choices::{put_minutes, read_minutes};
 use crate::parts::{Part, put_maybe, put_rows};
 use fsrm_base::Text;
 use fsrm_model::{Action, Threshold};
+use record_codec::ActionKindField;
 use record_fields::{
     Field, FieldFault, Reader, TextField, U16Field, U64Field, read_long_list, read_optional,
 };
@@ -24,7 +25,7 @@ impl Field for ActionField {
 
     #[tactic(auto, unfolding(record_fields::specs::Formats::known_at))]
     fn read(alloc: Global, reader: &mut Reader<'_>) -> Result<Action, FieldFault> {
-        let kind = read_action_kind(reader)?;
+        let kind = ActionKindField::read(alloc, reader)?;
         let minutes = read_minutes(reader)?;
         let text = TextField::read(alloc, reader)?;
         let last_run = read_optional::<U64Field>(alloc, reader, false)?;
@@ -49,7 +50,7 @@ impl Part for ActionField {
     ghost meets = { action_meets };
 
     fn put(value: &Action, into: &mut [u8], at: usize) -> usize {
-        let kind_end = put_action_kind(value.kind, into, at);
+        let kind_end = ActionKindField::put(&value.kind, into, at);
         let minutes_end = put_minutes(&value.minutes, into, kind_end);
         let text_end = TextField::put(&value.text, into, minutes_end);
         put_maybe::<U64Field>(&value.last_run, into, text_end)

@@ -4,38 +4,10 @@ ghost use Rattle.std.specs.Prelude.{◌≡◌, ◌≤◌, true, length};
 ghost use Rattle.fsrm_model.specs.store.Lasting.{flagged};
 ghost use Rattle.record_fields.specs.Readers.{Shows};
 ghost use Rattle.record_fields.specs.Writers.{Writes};
-ghost use Rattle.image_codec.specs.Choices.{action_kind, minutes as minutes_format, report_kind, state as state_format};
+ghost use Rattle.image_codec.specs.Choices.{minutes as minutes_format, report_kind, state as state_format};
 
-use fsrm_model::{ActionKind, QuotaState, ReportKind};
+use fsrm_model::{QuotaState, ReportKind};
 use record_fields::{Flaw, Reader, put_u8, put_u32};
-
-#[tactic(auto, unfolding(record_fields::specs::Formats::known_at))]
-pub fn read_action_kind(reader: &mut Reader<'_>) -> Result<ActionKind, Flaw>
-    ensures { Shows result reader.new (action_kind.read reader.old) }
-{
-    let left = reader.left();
-    match reader.read_u8()? {
-        1 => Ok(ActionKind::Event),
-        2 => Ok(ActionKind::Mail),
-        3 => Ok(ActionKind::Program),
-        4 => Ok(ActionKind::Report),
-        _ => Err(Flaw::Illegal { left }),
-    }
-}
-
-pub fn put_action_kind(kind: ActionKind, into: &mut [u8], at: usize) -> usize
-    requires { at ≤ length into.old }
-    ensures written { Writes into.old at into.new result (action_kind.spell kind) }
-    ensures legal { action_kind.legal kind ≡ true }
-{
-    let code = match kind {
-        ActionKind::Event => 1,
-        ActionKind::Mail => 2,
-        ActionKind::Program => 3,
-        ActionKind::Report => 4,
-    };
-    put_u8(into, at, code)
-}
 
 /// Minutes in two's complement.
 #[tactic(auto, unfolding(record_fields::specs::Formats::known_at))]

@@ -2,16 +2,16 @@
 
 ghost use Rattle.std.specs.Prelude.{◌≡◌, ◌≤◌, ◌+◌, ◌-◌, ◌++◌, [], List as Items, ℕ, length, IfOk, IfErr, Err};
 ghost use Rattle.record_fields.specs.declared.flaw.Flaw.TheVariants.{Illegal as IllegalFlaw};
-ghost use Rattle.image_codec.specs.declared.fault.CodecFault.TheVariants.{BadRecord, NoMemory};
+ghost use Rattle.record_codec.specs.declared.fault.CodecFault.TheVariants.{BadRecord, NoMemory};
 ghost use Rattle.image_codec.specs.ImageIn.{AreRead, ReadsOn, past_end, resumed, outcome};
 ghost use Rattle.image_codec.specs.Images.{image_in};
 ghost use Rattle.image_codec.specs.Sections.{Pauses, no_rows};
 
-use crate::fault::CodecFault;
 use crate::reading::go_on;
 use crate::section::Section;
 use fsrm_base::List;
 use fsrm_model::Rows;
+use record_codec::CodecFault;
 use record_fields::{FieldFault, Flaw};
 use std::alloc::Global;
 

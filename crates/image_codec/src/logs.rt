@@ -6,9 +6,9 @@ ghost use Rattle.image_codec.specs.Nodes.{audit_lent};
 ghost use Rattle.image_codec.specs.Parts.{is_short};
 ghost use Rattle.image_codec.specs.Rows.{act as act_format, audit as audit_format};
 
-use crate::choices::{put_action_kind, read_action_kind};
 use crate::parts::{Part, put_name};
 use fsrm_model::{ActRow, AuditRow};
+use record_codec::ActionKindField;
 use record_fields::{
     Field, FieldFault, Reader, TextField, TruthField, U16Field, U32Field, U64Field,
 };
@@ -23,11 +23,11 @@ impl Field for ActField {
     ghost format = { act_format };
 
     #[tactic(auto, unfolding(record_fields::specs::Formats::known_at))]
-    fn read(_alloc: Global, reader: &mut Reader<'_>) -> Result<ActRow, FieldFault> {
+    fn read(alloc: Global, reader: &mut Reader<'_>) -> Result<ActRow, FieldFault> {
         let moment = reader.read_u64()?;
         let folder = reader.read_u32()?;
         let percent = reader.read_u16()?;
-        let kind = read_action_kind(reader)?;
+        let kind = ActionKindField::read(alloc, reader)?;
         Ok(ActRow {
             moment,
             folder,
@@ -49,7 +49,7 @@ pub fn put_act(entry: &ActRow, into: &mut [u8], at: usize) -> usize
     let moment_end = U64Field::put(&entry.moment, into, at);
     let folder_end = U32Field::put(&entry.folder, into, moment_end);
     let percent_end = U16Field::put(&entry.percent, into, folder_end);
-    put_action_kind(entry.kind, into, percent_end)
+    ActionKindField::put(&entry.kind, into, percent_end)
 }
 
 /// An entry of the log of audits.

@@ -4,14 +4,17 @@ ghost use Rattle.std.specs.Prelude.{◌≡◌, ◌≤◌, ◌<◌, ◌^◌, ℕ,
 ghost use Rattle.std.specs.List.{flat_map, list_all};
 ghost use Rattle.record_fields.specs.Formats.{Format, number, text, truth, number_spelled, optional, optional_spelled, listed_spelled};
 ghost use Rattle.record_fields.specs.Writers.{Writes};
+ghost use Rattle.record_codec.specs.Fields.{action_kind};
 ghost use Rattle.image_codec.specs.Parts.{any, is_short, few_meet, some_meets};
 ghost use Rattle.image_codec.specs.Rows.{rows};
 
 use fsrm_base::{List, Text};
+use fsrm_model::ActionKind;
+use record_codec::ActionKindField;
 use record_fields::writer::put_number;
 use record_fields::{
-    TextField, TruthField, U16Field, U32Field, U64Field, put_text, put_truth, put_u8, put_u16,
-    put_u32, put_u64,
+    Field, TextField, TruthField, U16Field, U32Field, U64Field, put_text, put_truth, put_u8,
+    put_u16, put_u32, put_u64,
 };
 
 /// How a part of a row is written.
@@ -76,6 +79,18 @@ impl Part for TruthField {
 
     fn put(value: &bool, into: &mut [u8], at: usize) -> usize {
         put_truth(into, at, *value)
+    }
+}
+
+impl Part for ActionKindField {
+    type Value = ActionKind;
+
+    ghost format = { action_kind };
+
+    ghost meets = { any };
+
+    fn put(value: &ActionKind, into: &mut [u8], at: usize) -> usize {
+        ActionKindField::write(value, into, at)
     }
 }
 
