@@ -2,6 +2,7 @@ pub mod ChoiceLaws
 pub mod ImageInLaws
 pub mod ImageReads
 pub mod LengthLaws
+pub mod NewImage
 pub mod PartLaws
 pub mod PieceLaws
 pub mod RowLaws

@@ -1,6 +1,7 @@
 pub mod Choices
 pub mod ImageIn
 pub mod Images
+pub mod NewImage
 pub mod Nodes
 pub mod Parts
 pub mod Pieces

@@ -5,9 +5,11 @@ ghost use Rattle.std.specs.Prelude.{◌≡◌, ℕ, List, true, Ok, length};
 ghost use Rattle.std.specs.List.{flat_map, list_all};
 ghost use Rattle.fsrm_model.specs.declared.row.Capacity.{Capacity};
 ghost use Rattle.fsrm_model.specs.declared.row.Rows.{Rows};
+ghost use Rattle.fsrm_model.specs.nodes.Fresh.{new_rows};
 ghost use Rattle.fsrm_model.specs.store.Lasting.{lasting};
 ghost use Rattle.fsrm_model.specs.store.Valid.{is_valid};
 ghost use Rattle.image_codec.specs.Images.{image, image_in};
+ghost use Rattle.image_codec.specs.NewImage.{new_image};
 ghost use Rattle.image_codec.specs.Pieces.{pieces, piece_meets, piece_spelled};
 
 /// An image has one spelling, which is read again as these rows, whatever follows, and no other bytes spell it. Damage
@@ -31,4 +33,10 @@ pub fn valid_pieces()
 pub fn whole_images()
     ensures again { (R : Rows) → image.legal R ≡ true → image_in (length (image.spell R)) (image.spell R) ≡ Ok R }
     ensures takes { (len : ℕ) (bytes : List ℕ) (R : Rows) → AreBytes bytes → image_in len bytes ≡ Ok R → (image.legal R ≡ true) × (bytes ≡ image.spell R) × (length bytes ≡ len) }
+{}
+
+/// The image of a new store, byte by byte: there are 99.
+pub fn new_images()
+    ensures spelled { image.spell new_rows ≡ new_image }
+    ensures long { length new_image ≡ 99 }
 {}
