@@ -1,6 +1,6 @@
 -- What a reader of pieces answers.
 use Rattle.std.proofs.Common.{◌≡◌, ◌≢◌, ℕ, ◌+◌, ◌-◌, ◌<◌, ◌≤◌, Bool, true, false, List, [], ◌∷◌, ◌++◌, length, take, drop, Option, Some, None, Ok, Err, refl, sym, ap, subst, ◌∙◌, append_assoc, arith, ◌⊎◌, inl, inr, eq-eqb}
-use Rattle.std.specs.Prelude.{◌==◌, ◌&&◌, nat_eq, nat_lt, Result, is_none, is_some}
+use Rattle.std.specs.Prelude.{◌==◌, ◌&&◌, nat_lt, Result, is_none, is_some}
 use Rattle.std.specs.Option.{unwrap_or}
 use Rattle.fsrm_base.proofs.TestLaws.{is_or, neither}
 use Rattle.std.proofs.lemmas.Bool.{ne_eqb, ltb-true, ltb-false}

@@ -1,16 +1,14 @@
 -- The pieces of rows, joined, are the image of what is kept of them.
-use Rattle.std.proofs.Common.{◌≡◌, ℕ, Bool, true, List, [], ◌∷◌, ◌++◌, length, refl, sym, ap, ◌∙◌, append_assoc}
-use Rattle.std.specs.Prelude.{◌&&◌, map}
-use Rattle.std.specs.List.{list_all, flat_map}
-use Rattle.std.proofs.lemmas.List.{append-nil, length-map}
+use Rattle.std.proofs.Common.{◌≡◌, ℕ, List, [], ◌∷◌, ◌++◌, length, refl, sym, ap, ◌∙◌, append_assoc}
+use Rattle.std.specs.Prelude.{map}
+use Rattle.std.specs.List.{flat_map}
+use Rattle.std.proofs.lemmas.List.{length-map}
 use Rattle.std.proofs.lemmas.List.Concat.{flat_map-append}
-use Rattle.fsrm_base.proofs.TestLaws.{both, both_true}
-use Rattle.fsrm_model.specs.declared.row.QuotaRow.{QuotaRow}
 use Rattle.fsrm_model.specs.declared.row.Rows.{Rows}
 use Rattle.fsrm_model.specs.store.Lasting.{flagged_quota, lasting}
 use Rattle.record_fields.specs.Formats.{Format, number_spelled, listed_spelled}
 use Rattle.image_codec.specs.Images.{image}
-use Rattle.image_codec.specs.Pieces.{Piece, CountPiece, StartPiece, NodePiece, QuotaPiece, TemplatePiece, AutoPiece, GroupPiece, ScreenPiece, ExceptPiece, JobPiece, ActPiece, AuditPiece, piece_spelled, list_pieces, pieces}
+use Rattle.image_codec.specs.Pieces.{Piece, NodePiece, QuotaPiece, TemplatePiece, AutoPiece, GroupPiece, ScreenPiece, ExceptPiece, JobPiece, ActPiece, AuditPiece, piece_spelled, list_pieces, pieces}
 use Rattle.image_codec.specs.Rows.{rows, node, quota, template, auto, group, screen, except, job, act, audit}
 
 mapped : {X Y : Type 0} (make : X → Piece) (kept : X → Y) (f : Format Y) → ((x : X) → piece_spelled (make x) ≡ f.spell (kept x)) → (xs : List X) → flat_map piece_spelled (map make xs) ≡ flat_map f.spell (map kept xs)

@@ -1,5 +1,5 @@
 -- Reading an image section by section.
-use Rattle.std.proofs.Common.{◌≡◌, ◌≢◌, ◌⊎◌, inl, inr, ℕ, suc, ◌+◌, ◌<◌, ◌≤◌, ◌-◌, zero, Bool, true, false, cond, drop, List, [], ◌∷◌, ◌++◌, length, Option, Some, None, Ok, Err, refl, sym, ap, subst, ◌∙◌, append_assoc, arith}
+use Rattle.std.proofs.Common.{◌≡◌, ◌≢◌, ℕ, suc, ◌≤◌, zero, Bool, true, false, cond, drop, List, [], ◌∷◌, ◌++◌, length, Ok, Err, refl, ap, ◌∙◌, arith}
 use Rattle.std.specs.Prelude.{Result, IfOk}
 use Rattle.std.proofs.Math.Dec.{ltb}
 use Rattle.std.proofs.lemmas.Bool.{ltb-false, le-ltb}
@@ -7,10 +7,9 @@ use Rattle.byteorder.specs.Endian.{little_number}
 use Rattle.byteorder.specs.Numbers.{little_from-append}
 use Rattle.std.proofs.lemmas.List.{append-nil, length-append, drop-append-le}
 use Rattle.fsrm_model.specs.declared.row.Rows.{Rows}
-use Rattle.record_fields.specs.declared.flaw.FieldFault.{FieldFault}
 use Rattle.record_fields.specs.declared.flaw.Flaw.{Flaw}
-use Rattle.record_fields.specs.declared.flaw.Flaw.TheVariants.{Truncated, Illegal}
-use Rattle.record_fields.specs.Formats.{Format, Read, ◌>>=◌, ◌⊗◌, number, number_at, items_at, listed_at, known_at}
+use Rattle.record_fields.specs.declared.flaw.Flaw.TheVariants.{Truncated}
+use Rattle.record_fields.specs.Formats.{Format, Read, ◌>>=◌, number_at, items_at}
 use Rattle.record_fields.specs.Pieces.{with_front}
 use Rattle.record_fields.proofs.ReadLaws.{ok_is}
 use Rattle.image_codec.specs.declared.section.Section.{Section}

@@ -1,13 +1,11 @@
 -- Valid rows meet the limits of pieces.
-use Rattle.std.proofs.Common.{◌≡◌, ◌⊎◌, inl, inr, ℕ, ◌≤◌, Bool, true, false, cond, List, [], ◌∷◌, ◌++◌, length, refl, sym, ap, ◌∙◌, arith}
+use Rattle.std.proofs.Common.{◌≡◌, ◌⊎◌, inl, inr, ℕ, ◌≤◌, Bool, true, false, cond, List, [], ◌∷◌, ◌++◌, length, refl, ◌∙◌, arith}
 use Rattle.std.specs.Prelude.{◌==◌, ◌&&◌, ◌||◌, not, nat_lt, nat_le, map}
 use Rattle.std.specs.List.{list_all, list_any}
 use Rattle.std.proofs.lemmas.Bool.{eqb-true, leb-true, le-leb, ltb-false}
 use Rattle.fsrm_base.proofs.TestLaws.{both, both_true, is_false}
 use Rattle.fsrm_base.specs.Keyed.{is_ascending, has_row}
-use Rattle.fsrm_base.specs.Numbers.{each_once}
 use Rattle.fsrm_model.specs.declared.row.Action.{Action}
-use Rattle.fsrm_model.specs.declared.row.ActRow.{ActRow}
 use Rattle.fsrm_model.specs.declared.row.AuditRow.{AuditRow}
 use Rattle.fsrm_model.specs.declared.row.AutoRow.{AutoRow}
 use Rattle.fsrm_model.specs.declared.row.Capacity.{Capacity}
@@ -20,14 +18,14 @@ use Rattle.fsrm_model.specs.declared.row.Rows.{Rows}
 use Rattle.fsrm_model.specs.declared.row.ScreenRow.{ScreenRow}
 use Rattle.fsrm_model.specs.declared.row.TemplateRow.{TemplateRow}
 use Rattle.fsrm_model.specs.declared.row.Threshold.{Threshold}
-use Rattle.fsrm_model.specs.nodes.Tree.{number, is_folder, name_bytes}
+use Rattle.fsrm_model.specs.nodes.Tree.{number, is_folder}
 use Rattle.fsrm_model.specs.objects.AutoApply.{is_auto}
 use Rattle.fsrm_model.specs.objects.Quota.{is_limit}
-use Rattle.fsrm_model.specs.objects.Templates.{template_number, template_name, is_template, is_unrun}
+use Rattle.fsrm_model.specs.objects.Templates.{template_number, is_template, is_unrun}
 use Rattle.fsrm_model.specs.objects.Thresholds.{percent_of, is_percent, are_minutes, is_printing, is_action_text, is_action, is_kept_action, is_threshold, is_crowded, are_too_many, are_thresholds}
 use Rattle.fsrm_model.specs.store.Valid.{is_root_node, is_own, is_inner_node, is_sound_node, is_tree, is_sound_quota, are_quotas, are_templates, is_sound_auto, are_autos, are_groups, are_group_numbers, are_screen_actions, is_sound_screen, are_screens, is_sound_except, are_excepts, is_audit, are_audits, are_tables, has_source, is_empty, is_moment, is_valid}
 use Rattle.fsrm_model.specs.values.Limits.{longest_name, longest_action_text}
-use Rattle.fsrm_model.specs.values.Name.{is_name, is_name_byte}
+use Rattle.fsrm_model.specs.values.Name.{is_name}
 use Rattle.fsrm_model.specs.values.Patterns.{is_object_name, is_object_byte, is_pattern, are_members, are_non_members, is_group}
 use Rattle.image_codec.specs.Parts.{any, is_short, few_meet, action_meets, threshold_meets, thresholds_meet, quota_meets, template_meets, auto_meets, group_meets, screen_meets, except_meets, job_meets}
 use Rattle.image_codec.specs.Pieces.{Piece, NodePiece, QuotaPiece, TemplatePiece, AutoPiece, GroupPiece, ScreenPiece, ExceptPiece, JobPiece, ActPiece, AuditPiece, piece_meets, list_pieces, pieces}

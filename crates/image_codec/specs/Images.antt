@@ -1,6 +1,6 @@
 -- Images: all rows that are kept, in one spelling. The moment of the last command and the run limit come first, then ten
 -- lists. The queue and the unvisited folders aren't written, and are read as empty.
-use Rattle.std.specs.Prelude.{ℕ, ◌-◌, ◌&&◌, ◌==◌, Bool, List, [], length, take, Option, Some, Result, Ok, Err, if◌then◌else◌}
+use Rattle.std.specs.Prelude.{ℕ, ◌-◌, ◌&&◌, ◌==◌, Bool, List, [], length, take, Some, Result, Ok, Err, if◌then◌else◌}
 use Rattle.fsrm_model.specs.declared.row.ActRow.{ActRow}
 use Rattle.fsrm_model.specs.declared.row.AuditRow.{AuditRow}
 use Rattle.fsrm_model.specs.declared.row.AutoRow.{AutoRow}

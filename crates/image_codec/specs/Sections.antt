@@ -1,5 +1,5 @@
 -- How an image is read on, after parts of it were read.
-use Rattle.std.specs.Prelude.{◌≡◌, ℕ, zero, suc, List, [], ◌∷◌, ◌++◌, length, Option, Some, None, Ok, Err}
+use Rattle.std.specs.Prelude.{◌≡◌, ℕ, zero, suc, List, [], ◌∷◌, Option, Some, None, Ok, Err}
 use Rattle.fsrm_model.specs.declared.row.Rows.{Rows}
 use Rattle.record_fields.specs.declared.flaw.Flaw.TheVariants.{Truncated}
 use Rattle.record_fields.specs.Formats.{Format, Read, ◌>>=◌, number_at, items_at}

@@ -1,5 +1,5 @@
-use Rattle.std.proofs.Common.{refl, arith}
-use Rattle.fsrm_base.proofs.TestLaws.{both, both_true}
+use Rattle.std.proofs.Common.{refl}
+use Rattle.fsrm_base.proofs.TestLaws.{both_true}
 use Rattle.record_fields.proofs.WriterLaws.{writes_then}
 use Rattle.image_codec.proofs.PartLaws.{some_any}
 use Rattle.image_codec.proofs.jobs.put_filter.Goals as goal

@@ -1,4 +1,4 @@
-use Rattle.std.proofs.Common.{refl, arith}
+use Rattle.std.proofs.Common.{refl}
 use Rattle.std.specs.Prelude.{◌&&◌}
 use Rattle.fsrm_base.proofs.TestLaws.{both, both_true}
 use Rattle.record_fields.proofs.WriterLaws.{writes_then}

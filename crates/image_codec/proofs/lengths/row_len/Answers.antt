@@ -1,4 +1,4 @@
-use Rattle.std.proofs.Common.{sym, arith, ◌++◌, length-append}
+use Rattle.std.proofs.Common.{sym, arith, length-append}
 use Rattle.record_fields.specs.Formats.{number_spelled}
 use Rattle.image_codec.proofs.LengthLaws.{number_long, node_long, auto_long, except_long, act_long, audit_long}
 use Rattle.image_codec.proofs.lengths.row_len.Goals as goal

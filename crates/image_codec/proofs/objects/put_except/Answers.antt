@@ -1,5 +1,5 @@
 use Rattle.std.proofs.Common.{refl, arith}
-use Rattle.fsrm_base.proofs.TestLaws.{both, both_true}
+use Rattle.fsrm_base.proofs.TestLaws.{both_true}
 use Rattle.record_fields.proofs.WriterLaws.{writes_then}
 use Rattle.fsrm_model.specs.values.Limits.{most_screen_groups}
 use Rattle.image_codec.proofs.objects.put_except.Goals as goal

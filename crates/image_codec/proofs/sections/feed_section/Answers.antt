@@ -1,5 +1,4 @@
 use Rattle.std.proofs.Common.{inl, inr}
-use Rattle.record_fields.specs.declared.flaw.Flaw.TheVariants.{Truncated, Illegal}
 use Rattle.image_codec.specs.Rows.{node, quota, template, auto, group, screen, except, job, act, audit}
 use Rattle.image_codec.proofs.RowLaws.{node_places, quota_places, template_places, auto_places, group_places, screen_places, except_places, job_places, act_places, audit_places}
 use Rattle.image_codec.proofs.SectionLaws.{ok_then, more_on, more_flaw, more_cut}

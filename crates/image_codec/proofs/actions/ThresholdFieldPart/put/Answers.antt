@@ -1,5 +1,5 @@
 use Rattle.std.proofs.Common.{refl, arith}
-use Rattle.fsrm_base.proofs.TestLaws.{both, both_true}
+use Rattle.fsrm_base.proofs.TestLaws.{both_true}
 use Rattle.record_fields.proofs.WriterLaws.{writes_then}
 use Rattle.fsrm_model.specs.values.Limits.{most_actions}
 use Rattle.image_codec.proofs.actions.ThresholdFieldPart.put.Goals as goal

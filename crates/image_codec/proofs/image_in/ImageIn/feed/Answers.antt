@@ -1,6 +1,5 @@
-use Rattle.std.proofs.Common.{◌≡◌, ℕ, ◌-◌, ◌<◌, ◌≤◌, true, false, List, ◌++◌, length, take, Err, sym, ap, ◌∙◌, arith}
+use Rattle.std.proofs.Common.{◌≡◌, ℕ, ◌-◌, ◌<◌, ◌≤◌, true, false, List, ◌++◌, length, Err, sym, ap, ◌∙◌, arith}
 use Rattle.std.specs.Option.{unwrap_or}
-use Rattle.std.proofs.lemmas.List.{take-append-drop}
 use Rattle.record_codec.specs.declared.fault.CodecFault.TheVariants.{BadRecord}
 use Rattle.image_codec.specs.ImageIn.{outcome, past_end}
 use Rattle.image_codec.proofs.ImageInLaws.{parted, illegal_outcome, feed_damage, feed_on}
