@@ -1,22 +1,18 @@
 //! Kinds of fields that lists and optional values are of.
 
-ghost use Rattle.std.specs.Prelude.{◌≡◌};
-ghost use Rattle.std.specs.List.{list_all};
-ghost use Rattle.fsrm_model.specs.objects.Thresholds.{is_printing, is_action_text};
-ghost use Rattle.fsrm_model.specs.values.Patterns.{is_object_byte, is_object_name};
 ghost use Rattle.record_codec.specs.Fields.{limit, percent, object_name, name, pattern, action_text, members, non_members, excluded_names};
 
 use file_groups::is_pattern;
 use fsrm_base::{List, Text};
 use fsrm_model::limits::{
-    GREATEST_LIMIT, GREATEST_PERCENT, LEAST_LIMIT, LONGEST_ACTION_TEXT, MOST_EXCLUDED,
-    MOST_PATTERNS,
+    GREATEST_LIMIT, GREATEST_PERCENT, LEAST_LIMIT, MOST_EXCLUDED, MOST_PATTERNS,
 };
-use name_rules::{is_name, is_name_length};
+use name_rules::is_name;
 use record_fields::{
     Field, FieldFault, Flaw, Reader, put_short_list, put_text, put_u64, read_short_list,
 };
 use std::alloc::Global;
+use text_rules::{is_action_text, is_object_name};
 
 /// A limit of a quota.
 pub struct LimitField;
@@ -194,34 +190,4 @@ impl Field for ExcludedField {
     fn write(value: &List<Text>, into: &mut [u8], at: usize) -> usize {
         put_short_list::<NameField>(value, into, at)
     }
-}
-
-fn is_object_byte(byte: u8) -> bool
-    ensures { result ≡ is_object_byte byte }
-{
-    byte >= 32 && byte != 127 && byte != b'|'
-}
-
-fn are_object_bytes(bytes: &[u8]) -> bool
-    ensures { result ≡ list_all is_object_byte bytes.now }
-{
-    bytes.iter().all(|byte| is_object_byte(*byte))
-}
-
-fn is_object_name(text: &str) -> bool
-    ensures { result ≡ is_object_name text.now }
-{
-    is_name_length(text.len()) && are_object_bytes(text.as_bytes())
-}
-
-fn is_printing(bytes: &[u8]) -> bool
-    ensures { result ≡ list_all is_printing bytes.now }
-{
-    bytes.iter().all(|byte| *byte >= 32 && *byte != 127)
-}
-
-fn is_action_text(text: &str) -> bool
-    ensures { result ≡ is_action_text text.now }
-{
-    text.len() <= LONGEST_ACTION_TEXT && is_printing(text.as_bytes())
 }

@@ -1,20 +1,21 @@
 //! The thresholds of quotas and templates, and the actions of these and of screens, in the values of options.
 
 ghost use Rattle.std.specs.Prelude.{◌≡◌, ◌≤◌, false, IfOk, MatchOption};
-ghost use Rattle.std.specs.List.{list_all, list_any};
+ghost use Rattle.std.specs.List.{list_any};
 ghost use Rattle.fsrm_model.specs.texts.ActionWords.{action_from, is_comma, kind_named, minutes_from, notice_from, percent_from};
 ghost use Rattle.fsrm_model.specs.declared.command.Refusal.TheVariants.{InvalidName};
 ghost use Rattle.fsrm_model.specs.values.Limits.{most_minutes};
 ghost use Rattle.fsrm_model.specs.lines.Reading.{guarded, number_from};
-ghost use Rattle.fsrm_model.specs.objects.Thresholds.{is_action_text, is_printing};
+ghost use Rattle.fsrm_model.specs.objects.Thresholds.{is_action_text};
 ghost use Rattle.tool_commands.specs.ActionParts.{IsParted, AreParts, has_action_commas, action_of, added_from};
 ghost use Rattle.tool_commands.specs.LineFaults.{Reads};
 
 use crate::reading::LineFault;
 use crate::values::{is_named, read_number};
-use fsrm_model::limits::{GREATEST_PERCENT, LONGEST_ACTION_TEXT, MOST_MINUTES};
+use fsrm_model::limits::{GREATEST_PERCENT, MOST_MINUTES};
 use fsrm_model::{Action, ActionKind, Added, Refusal, Text};
 use std::alloc::Global;
+use text_rules::is_action_text;
 
 /// The percentage that a text of a word at this column is: 1 to 250.
 pub fn read_percent(text: &str, column: u32) -> Result<u16, LineFault>
@@ -58,19 +59,6 @@ fn kind_named(word: &str) -> Option<ActionKind>
         .iter()
         .find(|kind| is_named(kind.letter(), word))
         .copied()
-}
-
-// Whether no byte is a control character.
-fn is_printing(text: &[u8]) -> bool
-    ensures { result ≡ list_all is_printing text.now }
-{
-    text.iter().all(|byte| *byte >= 32 && *byte != 127)
-}
-
-fn is_action_text(text: &str) -> bool
-    ensures { result ≡ is_action_text text.now }
-{
-    text.len() <= LONGEST_ACTION_TEXT && is_printing(text.as_bytes())
 }
 
 fn read_text(alloc: Global, text: &str) -> Result<Text, LineFault>

@@ -2,13 +2,11 @@
 
 ghost use Rattle.std.specs.Prelude.{◌≡◌, ◌≤◌, ◌<◌, ◌&&◌, not, nat_lt, nat_le, length, slice_index, IfOk};
 ghost use Rattle.std.specs.Char.{is_ascii_digit};
-ghost use Rattle.std.specs.List.{list_all};
 ghost use Rattle.std.specs.Str.{str_eq_ignore_ascii_case};
 ghost use Rattle.fsrm_model.specs.lines.GroupWords.{object_from};
 ghost use Rattle.fsrm_model.specs.values.Limits.{latest_moment, most_visits};
 ghost use Rattle.fsrm_model.specs.lines.Line.{number_word, length_word, owner_word, path_word};
 ghost use Rattle.fsrm_model.specs.declared.command.Refusal.TheVariants.{OutOfRange};
-ghost use Rattle.fsrm_model.specs.values.Patterns.{is_object_byte, is_object_name};
 ghost use Rattle.fsrm_model.specs.lines.Reading.{guarded, number_from, path_from, choice_from};
 ghost use Rattle.fsrm_model.specs.lines.TemplateWords.{name_from, update_from};
 ghost use Rattle.tool_commands.specs.Lengths.{is_plain};
@@ -20,8 +18,9 @@ use crate::reading::LineFault;
 use crate::words::{Words, is_plain, is_word};
 use fsrm_model::limits::{LAST_OWNER, LATEST_MOMENT, LONGEST_FILE, MOST_VISITS};
 use fsrm_model::{Path, Refusal, Text, Update};
-use name_rules::{PathFault, is_name, is_name_length, read_path};
+use name_rules::{PathFault, is_name, read_path};
 use std::alloc::Global;
+use text_rules::is_object_name;
 
 const MOST_DIGITS: usize = 20;
 
@@ -137,24 +136,6 @@ pub fn read_name(alloc: Global, text: &str) -> Result<Text, LineFault>
         return Err(LineFault::Refused(Refusal::InvalidName));
     }
     Ok(Text::from_str(alloc, text)?)
-}
-
-fn is_object_byte(byte: u8) -> bool
-    ensures { result ≡ is_object_byte byte }
-{
-    byte >= 32 && byte != 127 && byte != b'|'
-}
-
-fn are_object_bytes(bytes: &[u8]) -> bool
-    ensures { result ≡ list_all is_object_byte bytes.now }
-{
-    bytes.iter().all(|byte| is_object_byte(*byte))
-}
-
-fn is_object_name(text: &str) -> bool
-    ensures { result ≡ is_object_name text.now }
-{
-    is_name_length(text.len()) && are_object_bytes(text.as_bytes())
 }
 
 /// Reads a text as the name of a file group or of a template: 1 to 255 bytes, no `|` and no control character.
