@@ -1,6 +1,11 @@
 //! Kinds of fields that lists and optional values are of.
 
-ghost use Rattle.record_codec.specs.Fields.{limit, percent, object_name, name, pattern, action_text, members, non_members, excluded_names};
+ghost use Rattle.std.specs.Prelude.{◌≡◌, ℕ, Bool, List as Items};
+ghost use Rattle.fsrm_model.specs.objects.Thresholds.{is_action_text};
+ghost use Rattle.fsrm_model.specs.values.Name.{is_name};
+ghost use Rattle.fsrm_model.specs.values.Patterns.{is_object_name, is_pattern};
+ghost use Rattle.record_fields.specs.Formats.{tested, text as text_format};
+ghost use Rattle.record_codec.specs.Fields.{limit, percent, members, non_members, excluded_names};
 
 use file_groups::is_pattern;
 use fsrm_base::{List, Text};
@@ -12,6 +17,7 @@ use record_fields::{
     Field, FieldFault, Flaw, Reader, put_short_list, put_text, put_u64, read_short_list,
 };
 use std::alloc::Global;
+use std::marker::PhantomData;
 use text_rules::{is_action_text, is_object_name};
 
 /// A limit of a quota.
@@ -49,19 +55,30 @@ impl Field for PercentField {
     }
 }
 
-/// The name of a template or of a file group.
-pub struct ObjectNameField;
+/// A rule that some texts meet.
+pub trait TextRule {
+    ghost meets: { Items ℕ → Bool };
 
-impl Field for ObjectNameField {
+    /// Whether a text meets it.
+    fn is_met(text: &str) -> bool
+        ensures { result ≡ meets text.now };
+}
+
+/// A text that meets a rule.
+pub struct RuledTextField<R: TextRule> {
+    rule: PhantomData<R>,
+}
+
+impl<R: TextRule> Field for RuledTextField<R> {
     type Value = Text;
 
-    ghost format = { object_name };
+    ghost format = { tested R.meets text_format };
 
     #[tactic(auto, unfolding(record_fields::specs::Formats::known_at))]
     fn read(alloc: Global, reader: &mut Reader<'_>) -> Result<Text, FieldFault> {
         let left = reader.left();
         let text = reader.read_text()?;
-        if !is_object_name(text) {
+        if !R::is_met(text) {
             return Err(FieldFault::Flawed(Flaw::Illegal { left }));
         }
         Ok(Text::from_str(alloc, text)?)
@@ -69,77 +86,64 @@ impl Field for ObjectNameField {
 
     fn write(value: &Text, into: &mut [u8], at: usize) -> usize {
         put_text(into, at, value.as_str())
+    }
+}
+
+/// What the name of a template or of a file group meets.
+pub struct ObjectNameRule;
+
+impl TextRule for ObjectNameRule {
+    ghost meets = { is_object_name };
+
+    fn is_met(text: &str) -> bool {
+        is_object_name(text)
+    }
+}
+
+/// The name of a template or of a file group.
+pub type ObjectNameField = RuledTextField<ObjectNameRule>;
+
+/// What the name of a node meets.
+pub struct NameRule;
+
+impl TextRule for NameRule {
+    ghost meets = { is_name };
+
+    fn is_met(text: &str) -> bool {
+        is_name(text)
     }
 }
 
 /// The name of a node.
-pub struct NameField;
+pub type NameField = RuledTextField<NameRule>;
 
-impl Field for NameField {
-    type Value = Text;
+/// What a pattern of names meets.
+pub struct PatternRule;
 
-    ghost format = { name };
+impl TextRule for PatternRule {
+    ghost meets = { is_pattern };
 
-    #[tactic(auto, unfolding(record_fields::specs::Formats::known_at))]
-    fn read(alloc: Global, reader: &mut Reader<'_>) -> Result<Text, FieldFault> {
-        let left = reader.left();
-        let text = reader.read_text()?;
-        if !is_name(text) {
-            return Err(FieldFault::Flawed(Flaw::Illegal { left }));
-        }
-        Ok(Text::from_str(alloc, text)?)
-    }
-
-    fn write(value: &Text, into: &mut [u8], at: usize) -> usize {
-        put_text(into, at, value.as_str())
+    fn is_met(text: &str) -> bool {
+        is_pattern(text)
     }
 }
 
 /// A pattern of names.
-pub struct PatternField;
+pub type PatternField = RuledTextField<PatternRule>;
 
-impl Field for PatternField {
-    type Value = Text;
+/// What the text of an action meets.
+pub struct ActionTextRule;
 
-    ghost format = { pattern };
+impl TextRule for ActionTextRule {
+    ghost meets = { is_action_text };
 
-    #[tactic(auto, unfolding(record_fields::specs::Formats::known_at))]
-    fn read(alloc: Global, reader: &mut Reader<'_>) -> Result<Text, FieldFault> {
-        let left = reader.left();
-        let text = reader.read_text()?;
-        if !is_pattern(text) {
-            return Err(FieldFault::Flawed(Flaw::Illegal { left }));
-        }
-        Ok(Text::from_str(alloc, text)?)
-    }
-
-    fn write(value: &Text, into: &mut [u8], at: usize) -> usize {
-        put_text(into, at, value.as_str())
+    fn is_met(text: &str) -> bool {
+        is_action_text(text)
     }
 }
 
 /// The text of an action.
-pub struct ActionTextField;
-
-impl Field for ActionTextField {
-    type Value = Text;
-
-    ghost format = { action_text };
-
-    #[tactic(auto, unfolding(record_fields::specs::Formats::known_at))]
-    fn read(alloc: Global, reader: &mut Reader<'_>) -> Result<Text, FieldFault> {
-        let left = reader.left();
-        let text = reader.read_text()?;
-        if !is_action_text(text) {
-            return Err(FieldFault::Flawed(Flaw::Illegal { left }));
-        }
-        Ok(Text::from_str(alloc, text)?)
-    }
-
-    fn write(value: &Text, into: &mut [u8], at: usize) -> usize {
-        put_text(into, at, value.as_str())
-    }
-}
+pub type ActionTextField = RuledTextField<ActionTextRule>;
 
 /// The members of a file group: 1 to 64 patterns.
 pub struct MembersField;
