@@ -6,7 +6,7 @@ ghost use Rattle.record_fields.specs.Writers.{Writes};
 ghost use Rattle.record_codec.specs.Autoquotas.{autoquota_kind, autoquota_deed, autoquota_spelled, autoquota_typed, new_autoquota, new_autoquota_typed};
 
 use crate::fields::{ExcludedField, ObjectNameField};
-use crate::paths::{PathField, put_path};
+use crate::paths::{PathField, put_on_path, put_path};
 use crate::typed::{OwnText, Typed, put_all};
 use fsrm_model::{AutoquotaDeed, NewAutoquota};
 use record_fields::{Field, FieldFault, Reader, put_u8};
@@ -74,10 +74,7 @@ pub fn put_autoquota_deed(deed: &AutoquotaDeed, into: &mut [u8], at: usize) -> u
             let after = put_u8(into, at, 30);
             put_new_autoquota(new, into, after)
         }
-        AutoquotaDeed::Delete { path } => {
-            let after = put_u8(into, at, 31);
-            put_path(path, into, after)
-        }
+        AutoquotaDeed::Delete { path } => put_on_path(31, path, into, at),
         AutoquotaDeed::List => at,
     }
 }

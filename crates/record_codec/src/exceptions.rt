@@ -6,7 +6,7 @@ ghost use Rattle.record_fields.specs.Writers.{Writes};
 ghost use Rattle.record_codec.specs.Exceptions.{exception_kind, exception_deed, exception_spelled, exception_typed, new_exception, new_exception_typed};
 
 use crate::fields::ObjectNameField;
-use crate::paths::{PathField, put_path};
+use crate::paths::{PathField, put_on_path, put_path};
 use crate::typed::{OwnText, put_all};
 use fsrm_model::{ExceptionDeed, NewException};
 use record_fields::{Field, FieldFault, Reader, put_u8, read_short_list};
@@ -69,10 +69,7 @@ pub fn put_exception_deed(deed: &ExceptionDeed, into: &mut [u8], at: usize) -> u
             let after = put_u8(into, at, 60);
             put_new_exception(new, into, after)
         }
-        ExceptionDeed::Delete { path } => {
-            let after = put_u8(into, at, 61);
-            put_path(path, into, after)
-        }
+        ExceptionDeed::Delete { path } => put_on_path(61, path, into, at),
         ExceptionDeed::List => at,
     }
 }

@@ -7,7 +7,7 @@ ghost use Rattle.record_codec.specs.Files.{file_kind, file_op, file_spelled};
 ghost use Rattle.record_codec.specs.Writing.{file_typed};
 
 use crate::numbers::{read_length, read_owner};
-use crate::paths::{PathField, put_path};
+use crate::paths::{PathField, put_on_path, put_path};
 use fsrm_model::FileOp;
 use record_fields::{Field, FieldFault, Reader, put_u8, put_u64};
 use std::alloc::Global;
@@ -138,18 +138,12 @@ pub fn put_op(op: &FileOp, into: &mut [u8], at: usize) -> usize
             let at = put_path(path, into, at);
             put_u64(into, at, *length)
         }
-        FileOp::Touch { path } => {
-            let at = put_u8(into, at, 4);
-            put_path(path, into, at)
-        }
+        FileOp::Touch { path } => put_on_path(4, path, into, at),
         FileOp::Move { from, to } => {
             let at = put_u8(into, at, 5);
             let at = put_path(from, into, at);
             put_path(to, into, at)
         }
-        FileOp::Remove { path } => {
-            let at = put_u8(into, at, 6);
-            put_path(path, into, at)
-        }
+        FileOp::Remove { path } => put_on_path(6, path, into, at),
     }
 }

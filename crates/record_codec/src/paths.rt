@@ -1,11 +1,10 @@
 //! Paths.
 
-ghost use Rattle.std.specs.Prelude.{◌≡◌, ◌≤◌, ◌==◌, ◌+◌, ◌-◌, ◌%◌, true, length, slice_index};
+ghost use Rattle.std.specs.Prelude.{◌≡◌, ◌≤◌, ◌==◌, ◌+◌, ◌-◌, ◌%◌, ◌++◌, true, length, slice_index};
 ghost use Rattle.std.specs.Str.{IsUtf8};
 ghost use Rattle.fsrm_model.specs.commands.Entry.{path_length};
 ghost use Rattle.fsrm_model.specs.meaning.PathNames.{left};
-ghost use Rattle.record_fields.specs.Formats.{text_spelled};
-ghost use Rattle.record_fields.specs.Readers.{Gives};
+ghost use Rattle.record_fields.specs.Formats.{number_spelled, text_spelled};
 ghost use Rattle.record_fields.specs.Writers.{Writes};
 ghost use Rattle.record_codec.specs.Decoding.{Finds};
 ghost use Rattle.record_codec.specs.Fields.{path, path_of, path_text};
@@ -14,7 +13,7 @@ ghost use Rattle.record_codec.specs.Typed.{is_path_text};
 
 use fsrm_model::{Names, Path};
 use name_rules::{PathFault, read_path};
-use record_fields::{Field, FieldFault, Flaw, Reader, put, put_u16};
+use record_fields::{Field, FieldFault, Flaw, Reader, put, put_u8, put_u16};
 use std::alloc::Global;
 
 /// A path: `D:\` and its names, joined by `\`. It is a text, and so one field.
@@ -88,6 +87,16 @@ pub fn put_path(path: &Path, into: &mut [u8], at: usize) -> usize
     }
     let begun = put(into, after, b"D:");
     put_names(path.names(), into, begun)
+}
+
+/// Writes the byte of a kind whose first value is a path, and this path. Its text is UTF-8.
+pub fn put_on_path(kind: u8, path: &Path, into: &mut [u8], at: usize) -> usize
+    requires { at ≤ length into.old }
+    ensures written { Writes into.old at into.new result (number_spelled 1 kind ++ text_spelled (path_text path.now)) }
+    ensures text { is_path_text path.now ≡ true }
+{
+    let after = put_u8(into, at, kind);
+    put_path(path, into, after)
 }
 
 // Writes names, each after a backslash.

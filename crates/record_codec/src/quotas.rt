@@ -7,7 +7,7 @@ ghost use Rattle.record_codec.specs.Quotas.{quota_kind, quota_deed, quota_spelle
 
 use crate::fields::{LimitField, ObjectNameField, PercentField};
 use crate::notices::{put_new_thresholds, read_new_thresholds};
-use crate::paths::{PathField, put_path};
+use crate::paths::{PathField, put_on_path, put_path};
 use crate::typed::{OwnText, put_some};
 use fsrm_model::{NewQuota, QuotaChange, QuotaDeed};
 use record_fields::{
@@ -121,18 +121,9 @@ pub fn put_quota_deed(deed: &QuotaDeed, into: &mut [u8], at: usize) -> usize
             let after = put_u8(into, at, 11);
             put_change(change, into, after)
         }
-        QuotaDeed::Delete { path } => {
-            let after = put_u8(into, at, 12);
-            put_path(path, into, after)
-        }
-        QuotaDeed::Scan { path } => {
-            let after = put_u8(into, at, 13);
-            put_path(path, into, after)
-        }
-        QuotaDeed::Resetpeak { path } => {
-            let after = put_u8(into, at, 14);
-            put_path(path, into, after)
-        }
+        QuotaDeed::Delete { path } => put_on_path(12, path, into, at),
+        QuotaDeed::Scan { path } => put_on_path(13, path, into, at),
+        QuotaDeed::Resetpeak { path } => put_on_path(14, path, into, at),
         QuotaDeed::List { .. } => at,
     }
 }

@@ -7,7 +7,7 @@ ghost use Rattle.record_codec.specs.Screens.{screen_kind, screen_deed, screen_sp
 
 use crate::fields::ObjectNameField;
 use crate::notices::ActionField;
-use crate::paths::{PathField, put_path};
+use crate::paths::{PathField, put_on_path, put_path};
 use crate::typed::{OwnText, put_all};
 use fsrm_model::{NewScreen, ScreenChange, ScreenDeed};
 use record_fields::{
@@ -103,10 +103,7 @@ pub fn put_screen_deed(deed: &ScreenDeed, into: &mut [u8], at: usize) -> usize
             let after = put_u8(into, at, 51);
             put_screen_change(change, into, after)
         }
-        ScreenDeed::Delete { path } => {
-            let after = put_u8(into, at, 52);
-            put_path(path, into, after)
-        }
+        ScreenDeed::Delete { path } => put_on_path(52, path, into, at),
         ScreenDeed::List => at,
     }
 }

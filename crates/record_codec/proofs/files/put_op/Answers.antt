@@ -11,11 +11,5 @@ returns-in-Create-clause-written c =
 pub returns-in-Resize-clause-written : goal.returns-in-Resize-clause-written
 returns-in-Resize-clause-written c = rw c.in-Resize.is (writes_then c.put_u8-at-in-Resize.ensures (writes_then c.put_path-at-in-Resize.ensures.written c.put_u64-in-Resize.ensures))
 
-pub returns-in-Touch-clause-written : goal.returns-in-Touch-clause-written
-returns-in-Touch-clause-written c = rw c.in-Touch.is (writes_then c.put_u8-at-in-Touch.ensures c.put_path.ensures.written)
-
 pub returns-in-Move-clause-written : goal.returns-in-Move-clause-written
-returns-in-Move-clause-written c = rw c.in-Move.is (writes_then c.put_u8-at-in-Move.ensures (writes_then c.put_path-at-in-Move.ensures.written c.put_path-in-Move.ensures.written))
-
-pub returns-in-Remove-clause-written : goal.returns-in-Remove-clause-written
-returns-in-Remove-clause-written c = rw c.in-Remove.is (writes_then c.put_u8-at-in-Remove.ensures c.put_path-in-Remove.ensures.written)
+returns-in-Move-clause-written c = rw c.in-Move.is (writes_then c.put_u8-at-in-Move.ensures (writes_then c.put_path-at-in-Move.ensures.written c.put_path.ensures.written))

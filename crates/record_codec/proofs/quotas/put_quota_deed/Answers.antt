@@ -7,14 +7,5 @@ returns-in-Add-clause-written c = rw c.in-Add.is (writes_then c.put_u8-after.ens
 pub returns-in-Modify-clause-written : goal.returns-in-Modify-clause-written
 returns-in-Modify-clause-written c = rw c.in-Modify.is (writes_then c.put_u8-after-in-Modify.ensures c.put_change.ensures.written)
 
-pub returns-in-Delete-clause-written : goal.returns-in-Delete-clause-written
-returns-in-Delete-clause-written c = rw c.in-Delete.is (writes_then c.put_u8-after-in-Delete.ensures c.put_path.ensures.written)
-
-pub returns-in-Scan-clause-written : goal.returns-in-Scan-clause-written
-returns-in-Scan-clause-written c = rw c.in-Scan.is (writes_then c.put_u8-after-in-Scan.ensures c.put_path-in-Scan.ensures.written)
-
-pub returns-in-Resetpeak-clause-written : goal.returns-in-Resetpeak-clause-written
-returns-in-Resetpeak-clause-written c = rw c.in-Resetpeak.is (writes_then c.put_u8-after-in-Resetpeak.ensures c.put_path-in-Resetpeak.ensures.written)
-
 pub returns-in-List-clause-written : goal.returns-in-List-clause-written
 returns-in-List-clause-written c = rw c.in-List.is (writes_nothing c.requires)
