@@ -1,18 +1,11 @@
 -- The laws of what commands do, over all families.
-use Rattle.std.proofs.Common.{◌≡◌, ℕ, true, Option, Some, None, refl, sym, ap, ◌∙◌}
+use Rattle.std.proofs.Common.{◌≡◌, ℕ, true, Option, Some, None, refl, sym, ap, ◌∙◌, arith}
 use Rattle.std.specs.Prelude.{nat_lt, option_map}
 use Rattle.std.specs.Option.{option_or}
+use Rattle.std.proofs.lemmas.Grind.{common_steps}
 use Rattle.fsrm_model.specs.commands.Commands.{kind}
 use Rattle.fsrm_model.specs.declared.command.Deed.{Deed}
 use Rattle.fsrm_model.specs.declared.command.Deed.TheVariants.{File, Quota, Template, Autoquota, Admin, Filegroup, Screen, Exception}
-use Rattle.fsrm_model.specs.declared.command.AdminDeed.{AdminDeed}
-use Rattle.fsrm_model.specs.declared.command.AutoquotaDeed.{AutoquotaDeed}
-use Rattle.fsrm_model.specs.declared.command.ExceptionDeed.{ExceptionDeed}
-use Rattle.fsrm_model.specs.declared.command.FileOp.{FileOp}
-use Rattle.fsrm_model.specs.declared.command.FilegroupDeed.{FilegroupDeed}
-use Rattle.fsrm_model.specs.declared.command.QuotaDeed.{QuotaDeed}
-use Rattle.fsrm_model.specs.declared.command.ScreenDeed.{ScreenDeed}
-use Rattle.fsrm_model.specs.declared.command.TemplateDeed.{TemplateDeed}
 use Rattle.record_fields.specs.Laws.{Places}
 use Rattle.record_codec.specs.declared.deeds.DeedKind.{DeedKind}
 use Rattle.record_codec.specs.declared.deeds.DeedKind.TheVariants.{File as FileKinds, Quota as QuotaKinds, Template as TemplateKinds, Autoquota as AutoquotaKinds, Setting as SettingKinds, Filegroup as FilegroupKinds, Screen as ScreenKinds, Exception as ExceptionKinds}
@@ -93,47 +86,15 @@ deed_home n k =
     (earlier (IsCode n) ExceptionKinds (exception_kind n) _ k (exception_home n) (λ none. absurd (cc none)))))))))
 
 -- ---- their values
-file_whole : (deed : Deed) (given : FileOp) → op_in deed ≡ Some given → File given ≡ deed
-file_whole (File deed) given e = cc
-file_whole other given e = absurd (cc e)
-
-quota_whole : (deed : Deed) (given : QuotaDeed) → quota_in deed ≡ Some given → Quota given ≡ deed
-quota_whole (Quota deed) given e = cc
-quota_whole other given e = absurd (cc e)
-
-template_whole : (deed : Deed) (given : TemplateDeed) → template_in deed ≡ Some given → Template given ≡ deed
-template_whole (Template deed) given e = cc
-template_whole other given e = absurd (cc e)
-
-autoquota_whole : (deed : Deed) (given : AutoquotaDeed) → autoquota_in deed ≡ Some given → Autoquota given ≡ deed
-autoquota_whole (Autoquota deed) given e = cc
-autoquota_whole other given e = absurd (cc e)
-
-setting_whole : (deed : Deed) (given : AdminDeed) → setting_in deed ≡ Some given → Admin given ≡ deed
-setting_whole (Admin deed) given e = cc
-setting_whole other given e = absurd (cc e)
-
-filegroup_whole : (deed : Deed) (given : FilegroupDeed) → filegroup_in deed ≡ Some given → Filegroup given ≡ deed
-filegroup_whole (Filegroup deed) given e = cc
-filegroup_whole other given e = absurd (cc e)
-
-screen_whole : (deed : Deed) (given : ScreenDeed) → screen_in deed ≡ Some given → Screen given ≡ deed
-screen_whole (Screen deed) given e = cc
-screen_whole other given e = absurd (cc e)
-
-exception_whole : (deed : Deed) (given : ExceptionDeed) → exception_in deed ≡ Some given → Exception given ≡ deed
-exception_whole (Exception deed) given e = cc
-exception_whole other given e = absurd (cc e)
-
 pub deed_places : (k : DeedKind) → Places (deed_values k)
-deed_places (FileKinds k) = one_of_places (λ deed. File deed) op_in (file_op k) (file_op_places k) (λ deed. refl) file_whole
-deed_places (QuotaKinds k) = one_of_places (λ deed. Quota deed) quota_in (quota_deed k) (quota_deed_places k) (λ deed. refl) quota_whole
-deed_places (TemplateKinds k) = one_of_places (λ deed. Template deed) template_in (template_deed k) (template_deed_places k) (λ deed. refl) template_whole
-deed_places (AutoquotaKinds k) = one_of_places (λ deed. Autoquota deed) autoquota_in (autoquota_deed k) (autoquota_deed_places k) (λ deed. refl) autoquota_whole
-deed_places (SettingKinds k) = one_of_places (λ deed. Admin deed) setting_in (setting_deed k) (setting_deed_places k) (λ deed. refl) setting_whole
-deed_places (FilegroupKinds k) = one_of_places (λ deed. Filegroup deed) filegroup_in (filegroup_deed k) (filegroup_deed_places k) (λ deed. refl) filegroup_whole
-deed_places (ScreenKinds k) = one_of_places (λ deed. Screen deed) screen_in (screen_deed k) (screen_deed_places k) (λ deed. refl) screen_whole
-deed_places (ExceptionKinds k) = one_of_places (λ deed. Exception deed) exception_in (exception_deed k) (exception_deed_places k) (λ deed. refl) exception_whole
+deed_places (FileKinds k) = one_of_places (λ deed. File deed) op_in (file_op k) (file_op_places k) (λ deed. refl) (grind (arith, common_steps))
+deed_places (QuotaKinds k) = one_of_places (λ deed. Quota deed) quota_in (quota_deed k) (quota_deed_places k) (λ deed. refl) (grind (arith, common_steps))
+deed_places (TemplateKinds k) = one_of_places (λ deed. Template deed) template_in (template_deed k) (template_deed_places k) (λ deed. refl) (grind (arith, common_steps))
+deed_places (AutoquotaKinds k) = one_of_places (λ deed. Autoquota deed) autoquota_in (autoquota_deed k) (autoquota_deed_places k) (λ deed. refl) (grind (arith, common_steps))
+deed_places (SettingKinds k) = one_of_places (λ deed. Admin deed) setting_in (setting_deed k) (setting_deed_places k) (λ deed. refl) (grind (arith, common_steps))
+deed_places (FilegroupKinds k) = one_of_places (λ deed. Filegroup deed) filegroup_in (filegroup_deed k) (filegroup_deed_places k) (λ deed. refl) (grind (arith, common_steps))
+deed_places (ScreenKinds k) = one_of_places (λ deed. Screen deed) screen_in (screen_deed k) (screen_deed_places k) (λ deed. refl) (grind (arith, common_steps))
+deed_places (ExceptionKinds k) = one_of_places (λ deed. Exception deed) exception_in (exception_deed k) (exception_deed_places k) (λ deed. refl) (grind (arith, common_steps))
 
 pub deed_own : AreOwn deed_values deed_kind
 deed_own (FileKinds k) (File op) legal = ap (λ j. Some (FileKinds j)) (file_own k op legal)

@@ -1,9 +1,9 @@
 -- Entries are read as they are spelled, and no other bytes spell them.
-use Rattle.std.proofs.Common.{◌≡◌, ℕ, ◌-◌, Bool, true, false, cond, List, [], length, None, Some, Ok, Err, Result, refl, sym, ap, ◌∙◌}
+use Rattle.std.proofs.Common.{◌≡◌, ℕ, ◌-◌, Bool, true, false, cond, List, [], length, None, Some, Ok, Err, Result, refl, sym, ap, ◌∙◌, arith}
 use Rattle.std.specs.Prelude.{nat_eq, IfOk, option_map}
 use Rattle.std.proofs.lemmas.Bool.{eqb-true}
+use Rattle.std.proofs.lemmas.Grind.{common_steps}
 use Rattle.std.proofs.lemmas.List.{append-nil, nil_from_length}
-use Rattle.fsrm_model.specs.declared.command.Deed.{Deed}
 use Rattle.fsrm_model.specs.declared.command.Entry.{Entry}
 use Rattle.fsrm_model.specs.declared.command.Entry.TheVariants.{Order, Finish}
 use Rattle.record_fields.specs.Formats.{Read, number, ◌⊗◌}
@@ -20,7 +20,7 @@ use Rattle.record_codec.specs.Entries.{Body, Does, Finishes, kind_of, kind_code,
 use Rattle.record_codec.specs.Fields.{moment, folder}
 use Rattle.record_codec.proofs.DeedLaws.{deed_known, deed_home, deed_places, deed_own, earlier}
 use Rattle.record_codec.proofs.FieldLaws.{moment_places, folder_places}
-use Rattle.record_codec.proofs.KindLaws.{AreOwn, one_of_places, tagged_places, made_of, chosen}
+use Rattle.record_codec.proofs.KindLaws.{AreOwn, one_of_places, tagged_places, chosen}
 
 -- ---- the byte of the kind
 kind_there : (k : Kind) → true ≡ true → kind_of (kind_code k) ≡ Some k
@@ -39,17 +39,9 @@ entry_kind_places : Places entry_kind
 entry_kind_places = standing_field_places kind_of kind_code (λ k. true) (number 1) (number_exact 1 width_1) (number_field 1) kind_there kind_home FinishKind refl refl
 
 -- ---- what follows it
-deed_whole : (b : Body) (deed : Deed) → deed_in b ≡ Some deed → Does deed ≡ b
-deed_whole (Does deed) given e = made_of Does deed given e
-deed_whole other given e = absurd (cc e)
-
-folder_whole : (b : Body) (n : ℕ) → folder_in b ≡ Some n → Finishes n ≡ b
-folder_whole (Finishes number) n e = cc
-folder_whole other n e = absurd (cc e)
-
 values_places : (k : Kind) → Places (values k)
-values_places (DeedKinds k) = one_of_places Does deed_in (deed_values k) (deed_places k) (λ deed. refl) deed_whole
-values_places FinishKind = one_of_places Finishes folder_in folder folder_places (λ n. refl) folder_whole
+values_places (DeedKinds k) = one_of_places Does deed_in (deed_values k) (deed_places k) (λ deed. refl) (grind (arith, common_steps))
+values_places FinishKind = one_of_places Finishes folder_in folder folder_places (λ n. refl) (grind (arith, common_steps))
 
 values_own : AreOwn values kind_in
 values_own (DeedKinds k) (Does deed) legal = ap (option_map DeedKinds) (deed_own k deed legal)

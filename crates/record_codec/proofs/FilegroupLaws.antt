@@ -1,13 +1,11 @@
 -- The laws of the entries of commands on file groups.
-use Rattle.std.proofs.Common.{◌≡◌, ℕ, true, List, Some, None, refl, sym}
-use Rattle.std.specs.Prelude.{nat_eq, option_map}
-use Rattle.std.proofs.lemmas.Bool.{eqb-true}
+use Rattle.std.proofs.Common.{◌≡◌, ℕ, true, Some, refl, arith}
+use Rattle.std.specs.Prelude.{option_map}
+use Rattle.std.proofs.lemmas.Grind.{common_steps}
 use Rattle.fsrm_model.specs.commands.Commands.{kind}
 use Rattle.fsrm_model.specs.declared.command.Deed.TheVariants.{Filegroup}
-use Rattle.fsrm_model.specs.declared.command.FilegroupChange.{FilegroupChange}
 use Rattle.fsrm_model.specs.declared.command.FilegroupDeed.{FilegroupDeed}
-use Rattle.fsrm_model.specs.declared.command.FilegroupDeed.TheVariants.{Add as FilegroupAdd, Modify as FilegroupModify, Delete as FilegroupDelete, List as FilegroupList}
-use Rattle.fsrm_model.specs.declared.command.NewFilegroup.{NewFilegroup}
+use Rattle.fsrm_model.specs.declared.command.FilegroupDeed.TheVariants.{Add as FilegroupAdd, Modify as FilegroupModify, Delete as FilegroupDelete}
 use Rattle.record_fields.specs.Formats.{optional, ◌⊗◌}
 use Rattle.record_fields.specs.Laws.{Places}
 use Rattle.record_fields.proofs.FollowedLaws.{◌also◌}
@@ -18,17 +16,11 @@ use Rattle.record_codec.specs.declared.filegroups.FilegroupKind.TheVariants.{Add
 use Rattle.record_codec.specs.Fields.{object_name, members, non_members}
 use Rattle.record_codec.specs.Filegroups.{filegroup_kind, filegroup_code, filegroup_kind_in, filegroup_deed, filegroup_of, filegroup_values, new_filegroup, change_of, change_values, filegroup_change, add_part, modify_part, delete_part}
 use Rattle.record_codec.proofs.FieldLaws.{object_name_places, members_places, non_members_places}
-use Rattle.record_codec.proofs.KindLaws.{one_of_places, made_of, chosen}
+use Rattle.record_codec.proofs.KindLaws.{one_of_places}
 
 -- ---- the bytes of the kinds
-abbrev IsCode : ℕ → FilegroupKind → Type 0
-IsCode n k = filegroup_code k ≡ n
-
 pub filegroup_home : (n : ℕ) (k : FilegroupKind) → filegroup_kind n ≡ Some k → filegroup_code k ≡ n
-filegroup_home n k =
-    chosen (IsCode n) (nat_eq n 40) AddKind k _ (λ e. sym (eqb-true n 40 e))
-    (chosen (IsCode n) (nat_eq n 41) ModifyKind k _ (λ e. sym (eqb-true n 41 e))
-    (chosen (IsCode n) (nat_eq n 42) DeleteKind k None (λ e. sym (eqb-true n 42 e)) (λ e. absurd (cc e))))
+filegroup_home = grind (arith, common_steps)
 
 -- ---- their values
 new_filegroup_places : Places new_filegroup
@@ -40,33 +32,15 @@ filegroup_change_places =
     shaped_places change_of change_values (object_name ⊗ optional members ⊗ optional non_members)
     (object_name_places also optional_places members members_places also optional_places non_members non_members_places) (λ n. refl) (λ v. refl)
 
-add_whole : (deed : FilegroupDeed) (new : NewFilegroup) → add_part deed ≡ Some new → FilegroupAdd new ≡ deed
-add_whole (FilegroupAdd new) v e = made_of FilegroupAdd new v e
-add_whole other v e = absurd (cc e)
-
-modify_whole : (deed : FilegroupDeed) (change : FilegroupChange) → modify_part deed ≡ Some change → FilegroupModify change ≡ deed
-modify_whole (FilegroupModify change) v e = made_of FilegroupModify change v e
-modify_whole other v e = absurd (cc e)
-
-delete_whole : (deed : FilegroupDeed) (v : List ℕ) → delete_part deed ≡ Some v → FilegroupDelete v ≡ deed
-delete_whole (FilegroupDelete name) v e = cc
-delete_whole other v e = absurd (cc e)
-
 pub filegroup_deed_places : (k : FilegroupKind) → Places (filegroup_deed k)
-filegroup_deed_places AddKind = one_of_places FilegroupAdd add_part new_filegroup new_filegroup_places (λ v. refl) add_whole
-filegroup_deed_places ModifyKind = one_of_places FilegroupModify modify_part filegroup_change filegroup_change_places (λ v. refl) modify_whole
-filegroup_deed_places DeleteKind = one_of_places (λ n. FilegroupDelete n) delete_part object_name object_name_places (λ v. refl) delete_whole
+filegroup_deed_places AddKind = one_of_places FilegroupAdd add_part new_filegroup new_filegroup_places (λ v. refl) (grind (arith, common_steps))
+filegroup_deed_places ModifyKind = one_of_places FilegroupModify modify_part filegroup_change filegroup_change_places (λ v. refl) (grind (arith, common_steps))
+filegroup_deed_places DeleteKind = one_of_places (λ n. FilegroupDelete n) delete_part object_name object_name_places (λ v. refl) (grind (arith, common_steps))
 
 -- each value is of its kind alone
 pub filegroup_own : (k : FilegroupKind) (deed : FilegroupDeed) → (filegroup_deed k).legal deed ≡ true → filegroup_kind_in deed ≡ Some k
-filegroup_own AddKind (FilegroupAdd new) legal = refl
-filegroup_own ModifyKind (FilegroupModify change) legal = refl
-filegroup_own DeleteKind (FilegroupDelete name) legal = refl
-filegroup_own k other legal = absurd (cc legal)
+filegroup_own = grind (arith, common_steps)
 
 -- ---- the machine's own kinds
 pub filegroup_numbered : (deed : FilegroupDeed) → kind (Filegroup deed) ≡ option_map filegroup_code (filegroup_kind_in deed)
-filegroup_numbered (FilegroupAdd new) = refl
-filegroup_numbered (FilegroupModify change) = refl
-filegroup_numbered (FilegroupDelete name) = refl
-filegroup_numbered FilegroupList = refl
+filegroup_numbered = grind (arith, common_steps)

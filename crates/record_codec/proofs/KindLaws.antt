@@ -40,10 +40,6 @@ one_of_exact {X = X} make parts f law made whole = record {
       made_read make f (bytes ++ more) ∙ rw (law.illegal bytes more left are first) refl;
 }
 
--- what a value is made of
-pub made_of : {A X : Type 0} (make : A → X) (a b : A) → Some a ≡ Some b → make b ≡ make a
-made_of make a b e = let is : a ≡ b = cc in ap make (sym is)
-
 joined_parts : {A : Type 0} (f : Format A) → ((a : A) → joined (f.fields a) ≡ f.spell a) → (o : Option A) → joined (option_map_or f.fields o []) ≡ option_map_or f.spell o []
 joined_parts f law None = refl
 joined_parts f law (Some a) = law a

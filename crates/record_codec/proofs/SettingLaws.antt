@@ -1,12 +1,12 @@
 -- The laws of the entries of commands on the service as a whole.
-use Rattle.std.proofs.Common.{◌≡◌, ℕ, ◌+◌, Bool, true, length, Some, None, refl, sym, ◌∙◌, arith}
-use Rattle.std.specs.Prelude.{nat_eq, option_map, is_some, sum_by}
+use Rattle.std.proofs.Common.{◌≡◌, ℕ, ◌+◌, Bool, true, length, Some, refl, ◌∙◌, arith}
+use Rattle.std.specs.Prelude.{option_map, is_some, sum_by}
 use Rattle.std.specs.Option.{option_map_or}
-use Rattle.std.proofs.lemmas.Bool.{eqb-true}
+use Rattle.std.proofs.lemmas.Grind.{common_steps}
 use Rattle.fsrm_model.specs.commands.Commands.{kind, form_of_admin}
 use Rattle.fsrm_model.specs.commands.Entry.{path_bytes}
 use Rattle.fsrm_model.specs.declared.command.AdminDeed.{AdminDeed}
-use Rattle.fsrm_model.specs.declared.command.AdminDeed.TheVariants.{Options as AdminOptions, List as AdminList, Log as AdminLog}
+use Rattle.fsrm_model.specs.declared.command.AdminDeed.TheVariants.{Options as AdminOptions}
 use Rattle.fsrm_model.specs.declared.command.Deed.TheVariants.{Admin}
 use Rattle.fsrm_model.specs.values.Limits.{most_minutes}
 use Rattle.record_fields.specs.Laws.{Places}
@@ -15,34 +15,24 @@ use Rattle.record_codec.specs.declared.settings.SettingKind.TheVariants.{Options
 use Rattle.record_codec.specs.Fields.{run_limit}
 use Rattle.record_codec.specs.Settings.{setting_kind, setting_code, setting_kind_in, setting_deed, setting_spelled, options_part}
 use Rattle.record_codec.proofs.FieldLaws.{run_limit_places}
-use Rattle.record_codec.proofs.KindLaws.{one_of_places, chosen}
+use Rattle.record_codec.proofs.KindLaws.{one_of_places}
 use Rattle.record_codec.proofs.Legal.{within_legal, from_zero, one_byte, eight_bytes, two}
 
 -- ---- the bytes of the kinds
-abbrev IsCode : ℕ → SettingKind → Type 0
-IsCode n k = setting_code k ≡ n
-
 pub setting_home : (n : ℕ) (k : SettingKind) → setting_kind n ≡ Some k → setting_code k ≡ n
-setting_home n k = chosen (IsCode n) (nat_eq n 35) OptionsKind k None (λ e. sym (eqb-true n 35 e)) (λ e. absurd (cc e))
+setting_home = grind (arith, common_steps)
 
 -- ---- their values
-options_whole : (deed : AdminDeed) (v : ℕ) → options_part deed ≡ Some v → AdminOptions v ≡ deed
-options_whole (AdminOptions minutes) v e = cc
-options_whole other v e = absurd (cc e)
-
 pub setting_deed_places : (k : SettingKind) → Places (setting_deed k)
-setting_deed_places OptionsKind = one_of_places (λ n. AdminOptions n) options_part run_limit run_limit_places (λ v. refl) options_whole
+setting_deed_places OptionsKind = one_of_places (λ n. AdminOptions n) options_part run_limit run_limit_places (λ v. refl) (grind (arith, common_steps))
 
 -- each value is of its kind alone
 pub setting_own : (k : SettingKind) (deed : AdminDeed) → (setting_deed k).legal deed ≡ true → setting_kind_in deed ≡ Some k
-setting_own OptionsKind (AdminOptions minutes) legal = refl
-setting_own k other legal = absurd (cc legal)
+setting_own = grind (arith, common_steps)
 
 -- ---- the machine's own kinds
 pub setting_numbered : (deed : AdminDeed) → kind (Admin deed) ≡ option_map setting_code (setting_kind_in deed)
-setting_numbered (AdminOptions minutes) = refl
-setting_numbered AdminList = refl
-setting_numbered AdminLog = refl
+setting_numbered = grind (arith, common_steps)
 
 -- ---- what has its forms and ranges is legal, and of the length that the definitions count
 abbrev pub setting_is_legal : AdminDeed → Bool
