@@ -15,6 +15,7 @@ pub mod FilegroupLaws
 pub mod FilegroupWriting
 pub mod Formed
 pub mod KindLaws
+pub mod KindWriting
 pub mod Legal
 pub mod NoticeLaws
 pub mod NoticeWriting

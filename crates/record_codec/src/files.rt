@@ -9,7 +9,7 @@ ghost use Rattle.record_codec.specs.Writing.{file_typed};
 use crate::numbers::{read_length, read_owner};
 use crate::paths::{PathField, put_on_path, put_path};
 use fsrm_model::FileOp;
-use record_fields::{Field, FieldFault, Reader, put_u8, put_u64};
+use record_fields::{Field, FieldFault, Reader, put_u64};
 use std::alloc::Global;
 
 /// The kinds of file operations.
@@ -41,74 +41,35 @@ impl FileKind {
 }
 
 /// Reads the values of a file operation of this kind.
+#[tactic(auto, unfolding(record_fields::specs::Formats::known_at))]
 pub fn read_op(alloc: Global, reader: &mut Reader<'_>, kind: FileKind) -> Result<FileOp, FieldFault>
     ensures { Gives result reader.new ((file_op kind).read reader.old) }
 {
-    match kind {
-        FileKind::Mkdir => read_mkdir(alloc, reader),
-        FileKind::Create => read_create(alloc, reader),
-        FileKind::Resize => read_resize(alloc, reader),
-        FileKind::Touch => read_touch(alloc, reader),
-        FileKind::Move => read_move(alloc, reader),
-        FileKind::Remove => read_remove(alloc, reader),
-    }
-}
-
-#[tactic(auto, unfolding(record_fields::specs::Formats::known_at))]
-fn read_mkdir(alloc: Global, reader: &mut Reader<'_>) -> Result<FileOp, FieldFault>
-    ensures { Gives result reader.new ((file_op FileKind.Mkdir).read reader.old) }
-{
-    let path = PathField::read(alloc, reader)?;
-    let owner = read_owner(reader)?;
-    Ok(FileOp::Mkdir { path, owner })
-}
-
-#[tactic(auto, unfolding(record_fields::specs::Formats::known_at))]
-fn read_create(alloc: Global, reader: &mut Reader<'_>) -> Result<FileOp, FieldFault>
-    ensures { Gives result reader.new ((file_op FileKind.Create).read reader.old) }
-{
-    let path = PathField::read(alloc, reader)?;
-    let length = read_length(reader)?;
-    let owner = read_owner(reader)?;
-    Ok(FileOp::Create {
-        path,
-        length,
-        owner,
+    Ok(match kind {
+        FileKind::Mkdir => FileOp::Mkdir {
+            path: PathField::read(alloc, reader)?,
+            owner: read_owner(reader)?,
+        },
+        FileKind::Create => FileOp::Create {
+            path: PathField::read(alloc, reader)?,
+            length: read_length(reader)?,
+            owner: read_owner(reader)?,
+        },
+        FileKind::Resize => FileOp::Resize {
+            path: PathField::read(alloc, reader)?,
+            length: read_length(reader)?,
+        },
+        FileKind::Touch => FileOp::Touch {
+            path: PathField::read(alloc, reader)?,
+        },
+        FileKind::Move => FileOp::Move {
+            from: PathField::read(alloc, reader)?,
+            to: PathField::read(alloc, reader)?,
+        },
+        FileKind::Remove => FileOp::Remove {
+            path: PathField::read(alloc, reader)?,
+        },
     })
-}
-
-#[tactic(auto, unfolding(record_fields::specs::Formats::known_at))]
-fn read_resize(alloc: Global, reader: &mut Reader<'_>) -> Result<FileOp, FieldFault>
-    ensures { Gives result reader.new ((file_op FileKind.Resize).read reader.old) }
-{
-    let path = PathField::read(alloc, reader)?;
-    let length = read_length(reader)?;
-    Ok(FileOp::Resize { path, length })
-}
-
-#[tactic(auto, unfolding(record_fields::specs::Formats::known_at))]
-fn read_touch(alloc: Global, reader: &mut Reader<'_>) -> Result<FileOp, FieldFault>
-    ensures { Gives result reader.new ((file_op FileKind.Touch).read reader.old) }
-{
-    let path = PathField::read(alloc, reader)?;
-    Ok(FileOp::Touch { path })
-}
-
-#[tactic(auto, unfolding(record_fields::specs::Formats::known_at))]
-fn read_move(alloc: Global, reader: &mut Reader<'_>) -> Result<FileOp, FieldFault>
-    ensures { Gives result reader.new ((file_op FileKind.Move).read reader.old) }
-{
-    let from = PathField::read(alloc, reader)?;
-    let to = PathField::read(alloc, reader)?;
-    Ok(FileOp::Move { from, to })
-}
-
-#[tactic(auto, unfolding(record_fields::specs::Formats::known_at))]
-fn read_remove(alloc: Global, reader: &mut Reader<'_>) -> Result<FileOp, FieldFault>
-    ensures { Gives result reader.new ((file_op FileKind.Remove).read reader.old) }
-{
-    let path = PathField::read(alloc, reader)?;
-    Ok(FileOp::Remove { path })
 }
 
 /// Writes a file operation: its kind, and its values.
@@ -119,8 +80,7 @@ pub fn put_op(op: &FileOp, into: &mut [u8], at: usize) -> usize
 {
     match op {
         FileOp::Mkdir { path, owner } => {
-            let at = put_u8(into, at, 1);
-            let at = put_path(path, into, at);
+            let at = put_on_path(1, path, into, at);
             put_u64(into, at, *owner as u64)
         }
         FileOp::Create {
@@ -128,20 +88,17 @@ pub fn put_op(op: &FileOp, into: &mut [u8], at: usize) -> usize
             length,
             owner,
         } => {
-            let at = put_u8(into, at, 2);
-            let at = put_path(path, into, at);
+            let at = put_on_path(2, path, into, at);
             let at = put_u64(into, at, *length);
             put_u64(into, at, *owner as u64)
         }
         FileOp::Resize { path, length } => {
-            let at = put_u8(into, at, 3);
-            let at = put_path(path, into, at);
+            let at = put_on_path(3, path, into, at);
             put_u64(into, at, *length)
         }
         FileOp::Touch { path } => put_on_path(4, path, into, at),
         FileOp::Move { from, to } => {
-            let at = put_u8(into, at, 5);
-            let at = put_path(from, into, at);
+            let at = put_on_path(5, from, into, at);
             put_path(to, into, at)
         }
         FileOp::Remove { path } => put_on_path(6, path, into, at),
