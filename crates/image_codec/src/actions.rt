@@ -1,7 +1,5 @@
 //! Actions and thresholds.
 
-ghost use Rattle.std.specs.Prelude.{◌≡◌, ◌≤◌, true, length};
-ghost use Rattle.record_fields.specs.Writers.{Writes};
 ghost use Rattle.image_codec.specs.Parts.{action_meets, threshold_meets};
 ghost use Rattle.image_codec.specs.Rows.{action as action_format, threshold as threshold_format};
 

@@ -1,10 +1,9 @@
 //! How many bytes the pieces of an image have.
 
 ghost use Rattle.std.specs.Prelude.{◌≡◌, ◌≤◌, ◌+◌, ◌*◌, ℕ, Bool, true, List as Items, Option, length};
-ghost use Rattle.std.specs.List.{list_all};
 ghost use Rattle.fsrm_model.specs.store.Lasting.{flagged_quota};
 ghost use Rattle.record_fields.specs.Formats.{number_spelled, text_spelled, optional_spelled, listed_spelled};
-ghost use Rattle.image_codec.specs.Parts.{any, few_meet, is_short, action_meets, threshold_meets, thresholds_meet, quota_meets, template_meets, auto_meets, group_meets, screen_meets, except_meets, filter_meets, job_meets, some_meets};
+ghost use Rattle.image_codec.specs.Parts.{any, few_meet, is_short, action_meets, threshold_meets, quota_meets, template_meets, group_meets, screen_meets, filter_meets, job_meets, some_meets};
 ghost use Rattle.image_codec.specs.Pieces.{lent, piece_meets, piece_spelled};
 ghost use Rattle.image_codec.specs.Rows.{action as action_format, threshold as threshold_format, quota as quota_format, template as template_format, group as group_format, screen as screen_format, filter as filter_format, job as job_format};
 
