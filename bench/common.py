@@ -1,4 +1,4 @@
-"""What bench/lines, bench/scans and bench/journal share: the program, its rival, and how a script is measured."""
+"""What bench/lines, bench/scans, bench/journal and bench/codec share: programs, rivals, and how they are measured."""
 import os
 import re
 import resource
@@ -24,6 +24,30 @@ def rival_program(folder):
     rival = os.path.join(folder, 'rival')
     subprocess.run(['rustc', '-O', '--edition', '2021', '-o', rival, os.path.join(HERE, 'rival/main.rs')], check=True)
     return rival
+
+
+def built(root, name, crates, above, words):
+    """The program bench/NAME.rattle, built in this folder over these crates of the repository and what is kept of their
+    proofs, and run once with these words. Above are the crates of the kit on which it stands."""
+    with open(os.path.join(HERE, '../crates.txt'), encoding='utf-8') as lines:
+        below = [line for line in lines if line.split(':')[0] in crates]
+    with open(os.path.join(root, 'crates.txt'), 'w', encoding='utf-8') as lines:
+        lines.writelines([*below, f'{name}: {" ".join(crates)} {above}\n'])
+    for crate in crates:
+        shutil.copytree(os.path.join(HERE, '../crates', crate), os.path.join(root, 'crates', crate))
+    crate = os.path.join(root, 'crates', name)
+    os.makedirs(os.path.join(crate, 'src'))
+    shutil.copy(os.path.join(HERE, name + '.rattle'), os.path.join(crate, 'src/main.rt'))
+    subprocess.run(['rt', 'run', '--jobs', '1', '--', *words], cwd=crate, capture_output=True, check=True)
+    return os.path.join(crate, 'out', name)
+
+
+def built_rival(root, name):
+    """The program bench/NAME.rs, built in this folder."""
+    program = os.path.join(root, name)
+    source = os.path.join(HERE, name + '.rs')
+    subprocess.run(['rustc', '-O', '--edition', '2021', '-o', program, source], check=True)
+    return program
 
 
 def processor_time():
