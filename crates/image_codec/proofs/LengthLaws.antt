@@ -1,5 +1,5 @@
 -- How long spellings of rows are.
-use Rattle.std.proofs.Common.{◌≡◌, ℕ, ◌+◌, ◌*◌, ◌≤◌, ◌<◌, Bool, true, List, [], ◌∷◌, ◌++◌, length, take, Option, Some, None, sym, ap, ◌∙◌, arith}
+use Rattle.std.proofs.Common.{◌≡◌, ℕ, ◌+◌, ◌*◌, ◌≤◌, ◌<◌, Bool, true, List, [], ◌∷◌, ◌++◌, length, take, Option, Some, None, refl, sym, ap, ◌∙◌, arith}
 use Rattle.std.specs.Prelude.{get_or, nat_le, ◌&&◌}
 use Rattle.std.proofs.Math.Nat.{mul-le-mul_right}
 use Rattle.std.proofs.lemmas.Bool.{leb-true}
@@ -110,7 +110,7 @@ pattern_short : (o : Option (List ℕ)) → some_meets is_short o ≡ true → l
 pattern_short None meets = omega (arith, none_long text_spelled)
 pattern_short (Some t) meets = omega (arith, some_long text_spelled t, text_short t meets)
 
-flat_short : {X : Type 0} (spell : X → List ℕ) (meets : X → Bool) (most : ℕ) → ((x : X) → meets x ≡ true → length (spell x) ≤ most) → (xs : List X) → list_all meets xs ≡ true → length (flat_map spell xs) ≤ length xs * most
+pub flat_short : {X : Type 0} (spell : X → List ℕ) (meets : X → Bool) (most : ℕ) → ((x : X) → meets x ≡ true → length (spell x) ≤ most) → (xs : List X) → list_all meets xs ≡ true → length (flat_map spell xs) ≤ length xs * most
 flat_short spell meets most each [] all = omega arith
 flat_short spell meets most each (x ∷ xs) all =
     let parts = both (meets x) (list_all meets xs) all in
@@ -171,3 +171,22 @@ piece_short (ExceptPiece r) meets = omega (arith, except_long r, numbers_short r
 piece_short (JobPiece r) meets = omega (arith, job_short r meets)
 piece_short (ActPiece r) meets = omega (arith, act_long r)
 piece_short (AuditPiece r) meets = omega (arith, audit_long r, leb-true (length r.name) longest_action_text meets)
+
+-- ---- no piece is empty
+piece_some : (p : Piece) → 0 < length (piece_spelled p)
+piece_some (StartPiece m l) = omega (arith, length-append (number_spelled 8 m) (number_spelled 4 l), number_long 8 m, number_long 4 l)
+piece_some (CountPiece n) = omega (arith, number_long 4 n)
+piece_some (NodePiece r) = omega (arith, node_long r)
+piece_some (QuotaPiece r) = omega (arith, quota_long (flagged_quota r))
+piece_some (TemplatePiece r) = omega (arith, template_long r)
+piece_some (AutoPiece r) = omega (arith, auto_long r)
+piece_some (GroupPiece r) = omega (arith, group_long r)
+piece_some (ScreenPiece r) = omega (arith, screen_long r)
+piece_some (ExceptPiece r) = omega (arith, except_long r)
+piece_some (JobPiece r) = omega (arith, job_long r)
+piece_some (ActPiece r) = omega (arith, act_long r)
+piece_some (AuditPiece r) = omega (arith, audit_long r)
+
+pub no_piece : (ps : List Piece) → flat_map piece_spelled ps ≡ [] → ps ≡ []
+no_piece [] none = refl
+no_piece (p ∷ ps) none = absurd (omega (arith, piece_some p, length-append (piece_spelled p) (flat_map piece_spelled ps), ap length none))

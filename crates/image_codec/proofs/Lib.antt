@@ -1,8 +1,11 @@
 pub mod ChoiceLaws
 pub mod ImageInLaws
 pub mod ImageReads
+pub mod LeftLaws
+pub mod LegalLaws
 pub mod LengthLaws
 pub mod NewImage
+pub mod OutLaws
 pub mod PartLaws
 pub mod PieceLaws
 pub mod RowLaws

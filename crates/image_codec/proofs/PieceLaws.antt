@@ -19,7 +19,7 @@ listed : {X Y : Type 0} (make : X → Piece) (kept : X → Y) (f : Format Y) →
 unfolding listed_spelled
 listed make kept f each xs = ap (λ (n : ℕ). number_spelled 4 n ++ flat_map piece_spelled (map make xs)) (sym (length-map xs kept)) ∙ ap (λ (b : List ℕ). number_spelled 4 (length (map kept xs)) ++ b) (mapped make kept f each xs)
 
-same_map : {X : Type 0} (xs : List X) → map (λ x. x) xs ≡ xs
+pub same_map : {X : Type 0} (xs : List X) → map (λ x. x) xs ≡ xs
 same_map [] = refl
 same_map (x ∷ xs) = ap (λ ys. x ∷ ys) (same_map xs)
 

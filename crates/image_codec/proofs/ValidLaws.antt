@@ -31,7 +31,7 @@ use Rattle.image_codec.specs.Parts.{any, is_short, few_meet, action_meets, thres
 use Rattle.image_codec.specs.Pieces.{Piece, NodePiece, QuotaPiece, TemplatePiece, AutoPiece, GroupPiece, ScreenPiece, ExceptPiece, JobPiece, ActPiece, AuditPiece, piece_meets, list_pieces, pieces}
 
 -- ---- lists
-each_so : {X : Type 0} (p q : X → Bool) → ((x : X) → p x ≡ true → q x ≡ true) → (xs : List X) → list_all p xs ≡ true → list_all q xs ≡ true
+pub each_so : {X : Type 0} (p q : X → Bool) → ((x : X) → p x ≡ true → q x ≡ true) → (xs : List X) → list_all p xs ≡ true → list_all q xs ≡ true
 each_so p q so [] all = refl
 each_so p q so (x ∷ xs) all = let b = both (p x) (list_all p xs) all in both_true _ _ (so x b.0) (each_so p q so xs b.1)
 

@@ -1,9 +1,11 @@
 pub mod Choices
 pub mod ImageIn
+pub mod ImageOut
 pub mod Images
 pub mod NewImage
 pub mod Nodes
 pub mod Parts
 pub mod Pieces
+pub mod PiecesLeft
 pub mod Rows
 pub mod Sections

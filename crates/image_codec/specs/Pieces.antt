@@ -1,5 +1,5 @@
 -- The pieces of which an image consists: what comes first, the count of each list, and its rows.
-use Rattle.std.specs.Prelude.{ℕ, ◌&&◌, Bool, true, List, ◌∷◌, ◌++◌, length, map}
+use Rattle.std.specs.Prelude.{ℕ, ◌&&◌, Bool, true, false, List, ◌∷◌, ◌++◌, length, map}
 use Rattle.fsrm_model.specs.declared.row.ActRow.{ActRow}
 use Rattle.fsrm_model.specs.declared.row.AuditRow.{AuditRow}
 use Rattle.fsrm_model.specs.declared.row.AutoRow.{AutoRow}
@@ -60,6 +60,15 @@ lent (lent_row.Act row) = ActPiece row
 lent (lent_row.Audit moment active owner folder screen name) =
     AuditPiece
     (record { moment = moment; active = active; owner = owner; folder = folder; screen = screen; name = name.now })
+
+-- the rows whose names are lent by themselves
+abbrev pub is_node : Piece → Bool
+is_node (NodePiece row) = true
+is_node other = false
+
+abbrev pub is_audit : Piece → Bool
+is_audit (AuditPiece row) = true
+is_audit other = false
 
 -- How a piece is spelled. A quota that is rebuilt is spelled as incomplete
 abbrev pub piece_spelled : Piece → List ℕ

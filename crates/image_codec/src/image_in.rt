@@ -15,9 +15,6 @@ use record_codec::CodecFault;
 use record_fields::{FieldFault, Flaw};
 use std::alloc::Global;
 
-/// How many bytes of a row that hasn't come whole are held. No row of a store has more.
-const LONGEST_ROW: usize = 262_144;
-
 /// A reader of an image that comes in pieces. It holds the rows that were read, and the bytes of the next one.
 #[derive(Drop)]
 pub struct ImageIn {
@@ -99,9 +96,6 @@ impl ImageIn {
             bytes.as_slice(),
         ) {
             Ok(pause) => {
-                if pause.cut.is_some() && pause.rest.len() > LONGEST_ROW {
-                    return Err(CodecFault::NoMemory);
-                }
                 self.held = copied(self.alloc, pause.rest)?;
                 self.section = pause.section;
                 self.still = pause.still;

@@ -1,7 +1,7 @@
 //! What is proved of images.
 
 ghost use Rattle.record_fields.specs.Laws.{AreBytes, Places};
-ghost use Rattle.std.specs.Prelude.{◌≡◌, ℕ, List, true, Ok, length};
+ghost use Rattle.std.specs.Prelude.{◌≡◌, ◌<◌, ◌^◌, ℕ, List, true, Ok, length};
 ghost use Rattle.std.specs.List.{flat_map, list_all};
 ghost use Rattle.fsrm_model.specs.declared.row.Capacity.{Capacity};
 ghost use Rattle.fsrm_model.specs.declared.row.Rows.{Rows};
@@ -10,7 +10,8 @@ ghost use Rattle.fsrm_model.specs.store.Lasting.{lasting};
 ghost use Rattle.fsrm_model.specs.store.Valid.{is_valid};
 ghost use Rattle.image_codec.specs.Images.{image, image_in};
 ghost use Rattle.image_codec.specs.NewImage.{new_image};
-ghost use Rattle.image_codec.specs.Pieces.{pieces, piece_meets, piece_spelled};
+ghost use Rattle.image_codec.specs.Pieces.{pieces, piece_legal, piece_meets, piece_spelled};
+ghost use Rattle.image_codec.specs.PiecesLeft.{piece_fits};
 
 /// An image has one spelling, which is read again as these rows, whatever follows, and no other bytes spell it. Damage
 /// is told at its place: up to there the bytes are whole fields of an image, and with no image do they agree in whole
@@ -27,6 +28,16 @@ pub fn joined_pieces()
 /// Valid rows meet the limits of all pieces.
 pub fn valid_pieces()
     ensures { (K : Capacity) (R : Rows) → is_valid K R ≡ true → list_all piece_meets (pieces R) ≡ true }
+{}
+
+/// The pieces of valid rows can be written so that they are read again: each list is short enough for its count, too.
+pub fn fitting_pieces()
+    ensures { (K : Capacity) (R : Rows) → K.nodes < 2 ^ 32 → is_valid K R ≡ true → list_all piece_fits (pieces R) ≡ true }
+{}
+
+/// If each piece of rows is legal, so is the image of what is kept of them: it is read again.
+pub fn legal_pieces()
+    ensures { (R : Rows) → list_all piece_legal (pieces R) ≡ true → image.legal (lasting R) ≡ true }
 {}
 
 /// Of all bytes exactly the image of rows is read as these rows.

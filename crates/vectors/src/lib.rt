@@ -31,6 +31,8 @@ mod finishes;
 #[cfg(test)]
 mod groups;
 #[cfg(test)]
+mod images;
+#[cfg(test)]
 mod journals;
 #[cfg(test)]
 mod lists;
