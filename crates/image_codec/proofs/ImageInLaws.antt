@@ -3,7 +3,7 @@ use Rattle.std.proofs.Common.{◌≡◌, ◌≢◌, ℕ, ◌+◌, ◌-◌, ◌<�
 use Rattle.std.specs.Prelude.{◌==◌, ◌&&◌, nat_lt, Result, is_none, is_some}
 use Rattle.std.specs.Option.{unwrap_or}
 use Rattle.fsrm_base.proofs.TestLaws.{is_or, neither}
-use Rattle.std.proofs.lemmas.Bool.{ne_eqb, ltb-true, ltb-false}
+use Rattle.std.proofs.lemmas.Bool.{ne_eqb, le-ltb, ltb-true, ltb-false}
 use Rattle.std.proofs.lemmas.List.{append-nil, length-append, take-append-drop}
 use Rattle.std.proofs.Math.Bool.{and-false}
 use Rattle.std.proofs.Math.Seq.{take-append-add, take-nil}
@@ -144,6 +144,10 @@ feed_damage before now own beyond (Some left) within full on cut past more =
 none_beyond : (own beyond bytes : List ℕ) → own ++ beyond ≡ bytes → nat_lt 0 (length beyond) ≡ false → own ≡ bytes
 none_beyond own [] bytes parts none = sym (append-nil own) ∙ parts
 none_beyond own (x ∷ xs) bytes parts none = absurd (omega (arith, ltb-false 0 (length (x ∷ xs)) none))
+
+pub held_back : (before now : ImageIn) (own beyond bytes : List ℕ) → length own ≤ before.len - before.came → own ++ beyond ≡ bytes → length beyond ≡ 0 → ReadsOn before own now → (more : List ℕ) → outcome now more ≡ outcome before (bytes ++ more)
+held_back before now own beyond bytes within parts none on more =
+    outcome_on before now own within on more ∙ ap (λ (b : List ℕ). outcome before (b ++ more)) (none_beyond own beyond bytes parts (le-ltb 0 (length beyond) (omega (arith, none))))
 
 pub feed_on : (before now : ImageIn) (own beyond bytes : List ℕ) (cut : Option ℕ) → length own ≤ before.len - before.came → own ++ beyond ≡ bytes → ReadsOn before own now
     → past_end cut (length now.held.items) (length beyond) ≡ false → (more : List ℕ) → outcome now more ≡ outcome before (bytes ++ more)

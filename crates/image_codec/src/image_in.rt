@@ -7,6 +7,7 @@ ghost use Rattle.image_codec.specs.ImageIn.{AreRead, ReadsOn, past_end, resumed,
 ghost use Rattle.image_codec.specs.Images.{image_in};
 ghost use Rattle.image_codec.specs.Sections.{Pauses, no_rows};
 
+use crate::encoding::LONGEST_PIECE;
 use crate::reading::go_on;
 use crate::section::Section;
 use fsrm_base::List;
@@ -15,7 +16,8 @@ use record_codec::CodecFault;
 use record_fields::{FieldFault, Flaw};
 use std::alloc::Global;
 
-/// A reader of an image that comes in pieces. It holds the rows that were read, and the bytes of the next one.
+/// A reader of an image that comes in pieces. It holds the rows that were read, and the bytes of the next one, which it
+/// reads as soon as so many of them are due.
 #[derive(Drop)]
 pub struct ImageIn {
     alloc: Global,
@@ -24,6 +26,7 @@ pub struct ImageIn {
     section: Section,
     still: usize,
     held: Vec<u8>,
+    due: usize,
     rows: Rows,
 }
 
@@ -39,6 +42,7 @@ impl ImageIn {
             section: Section::Start,
             still: 1,
             held: Vec::new(alloc),
+            due: 0,
             rows: no_rows(alloc),
         }
     }
@@ -47,12 +51,16 @@ impl ImageIn {
     pub fn feed(&mut self, bytes: &[u8]) -> Result<(), CodecFault>
         // Whatever follows, what is answered is what was to be answered.
         ensures goes_on { IfOk result (λ u. (more : Items ℕ) → outcome self.new more ≡ outcome self.old (bytes.now ++ more)) }
-        // Damage is told as soon as no bytes that follow can mend it.
+        // Damage is told only where no bytes that follow can mend it.
         ensures damaged { (place : ℕ) → result ≡ Err (BadRecord place) → (more : Items ℕ) → outcome self.old (bytes.now ++ more) ≡ Err place }
     {
         let room = self.len.saturating_sub(self.came);
         let count = (bytes.len() as u64).min(room) as usize;
         let (own, beyond) = bytes.split_at(count);
+        if beyond.is_empty() && self.held.len().saturating_add(own.len()) < self.due {
+            self.hold(own)?;
+            return Ok(());
+        }
         let cut = match self.read_on(own) {
             Ok(cut) => cut,
             Err(fault) => return Err(fault),
@@ -77,6 +85,17 @@ impl ImageIn {
         Ok(reader.rows)
     }
 
+    // Keeps bytes of a long row for later.
+    fn hold(&mut self, own: &[u8]) -> Result<(), CodecFault>
+        requires { length own.now ≤ self.old.len - self.old.came }
+        ensures reads { IfOk result (λ u. ReadsOn self.old own.now self.new) }
+        ensures memory { IfErr result (λ fault. fault ≡ NoMemory) }
+    {
+        extend(&mut self.held, own)?;
+        self.came += own.len() as u64;
+        Ok(())
+    }
+
     // Takes bytes that aren't more than those that are still to come. Answers how many of the bytes that are held then
     // are left from the field on that is cut short, or None at the end of the image.
     fn read_on(&mut self, own: &[u8]) -> Result<Option<usize>, CodecFault>
@@ -97,6 +116,7 @@ impl ImageIn {
         ) {
             Ok(pause) => {
                 self.held = copied(self.alloc, pause.rest)?;
+                self.due = due_after(pause.rest.len());
                 self.section = pause.section;
                 self.still = pause.still;
                 Ok(pause.cut)
@@ -106,6 +126,16 @@ impl ImageIn {
             Err(FieldFault::NoMemory) => Err(CodecFault::NoMemory),
         }
     }
+}
+
+// How many bytes of a row that hasn't come whole are to be there when it is read again. A row that is longer than any of
+// a store, which only damage makes, is read again when it is twice as long: so all its readings together take no more
+// than some bytes for each of its own, however small the pieces are.
+fn due_after(held: usize) -> usize {
+    if held > LONGEST_PIECE {
+        return held.saturating_mul(2);
+    }
+    0
 }
 
 // Whether bytes follow those of a whole image: some that are held, or some past its length.

@@ -8,8 +8,14 @@ use Rattle.image_codec.proofs.image_out.image_len.Goals as goal
 
 pub overflow_add-total : goal.overflow_add-total
 overflow_add-total c =
-    omega (arith, few_bytes c.args.rows.now c.requires, c.pieces.invariant.total, ap (λ ps. length (flat_map piece_spelled ps)) c.in-Some.ensures,
-    length-append (piece_spelled (lent c.in-Some.piece)) (flat_map piece_spelled (pieces_left c.next.new.self)), c.row_len-total.ensures)
+    omega (
+      arith,
+      few_bytes c.args.rows.now c.requires,
+      c.pieces.invariant.total,
+      ap (λ ps. length (flat_map piece_spelled ps)) c.in-Some.ensures,
+      length-append (piece_spelled (lent c.in-Some.piece)) (flat_map piece_spelled (pieces_left c.next.new.self)),
+      c.row_len-total.ensures,
+    )
 
 pub returns : goal.returns
 returns c =

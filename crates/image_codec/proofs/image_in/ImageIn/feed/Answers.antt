@@ -1,8 +1,9 @@
 use Rattle.std.proofs.Common.{◌≡◌, ℕ, ◌-◌, ◌<◌, ◌≤◌, true, false, List, ◌++◌, length, Err, sym, ap, ◌∙◌, arith}
 use Rattle.std.specs.Option.{unwrap_or}
+use Rattle.std.proofs.lemmas.Bool.{eqb-true}
 use Rattle.record_codec.specs.declared.fault.CodecFault.TheVariants.{BadRecord}
 use Rattle.image_codec.specs.ImageIn.{outcome, past_end}
-use Rattle.image_codec.proofs.ImageInLaws.{parted, illegal_outcome, feed_damage, feed_on}
+use Rattle.image_codec.proofs.ImageInLaws.{parted, illegal_outcome, feed_damage, feed_on, held_back}
 use Rattle.image_codec.proofs.image_in.ImageIn.feed.Goals as goal
 
 pub returns-in-Err-clause-damaged : goal.returns-in-Err-clause-damaged
@@ -44,3 +45,13 @@ returns-clause-goes_on c = λ more.
     let past : past_end c.in-Ok.cut (length now.held.items) (length beyond) ≡ false =
     ap (λ (b : List ℕ). past_end c.in-Ok.cut (length b) (length beyond)) (sym c.as_slice-held.ensures.value) ∙ sym c.is_past_end.ensures ∙ c.if-is_past_end.false in
     feed_on self now own beyond c.args.bytes.now c.in-Ok.cut within parts c.in-Ok.ensures.reads past more
+
+pub returns-then-saturating_add-self-clause-goes_on : goal.returns-then-saturating_add-self-clause-goes_on
+returns-then-saturating_add-self-clause-goes_on c = λ more.
+    let self = c.args.self.now in
+    let own = c.split_at.result.0.now in
+    let beyond = c.split_at.result.1.now in
+    let within : length own ≤ self.len - self.came = omega arith in
+    let parts = parted c.min-count.result own beyond c.args.bytes.now c.split_at.ensures.front c.split_at.ensures.back in
+    let none : length beyond ≡ 0 = eqb-true (length beyond) 0 (sym c.is_empty.ensures ∙ c.if-is_empty.true) in
+    held_back self c.hold.new.self own beyond c.args.bytes.now within parts none c.in_ok-hold.ensures.reads more
