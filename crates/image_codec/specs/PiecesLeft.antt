@@ -1,5 +1,5 @@
 -- The pieces of rows from one on: those of the section that it stands in, and all of the sections after it.
-use Rattle.std.specs.Prelude.{◌≡◌, ℕ, ◌&&◌, Bool, true, List, [], ◌∷◌, ◌++◌, length, map, drop}
+use Rattle.std.specs.Prelude.{ℕ, ◌&&◌, Bool, true, List, [], ◌∷◌, ◌++◌, length, map, drop}
 use Rattle.fsrm_model.specs.declared.row.Rows.{Rows}
 use Rattle.record_fields.specs.Formats.{number_legal}
 use Rattle.image_codec.specs.declared.row_pieces.RowPieces.{RowPieces}

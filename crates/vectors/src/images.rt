@@ -6,7 +6,7 @@ ghost use Rattle.image_codec.specs.Pieces.{pieces};
 ghost use Rattle.image_codec.specs.PiecesLeft.{piece_fits};
 
 use crate::values::folder;
-use fsrm_model::{List, NodeRow, ReportKind, Rows};
+use fsrm_model::{List, ReportKind, Rows};
 use image_codec::{CodecFault, ImageIn, ImageOut, image_len};
 use std::alloc::Global;
 use std::test::Fail;

@@ -1,7 +1,7 @@
-use Rattle.std.proofs.Common.{◌≡◌, true, List, ◌++◌, take, sym, ap, ◌∙◌}
+use Rattle.std.proofs.Common.{◌≡◌, ◌++◌, take, sym, ap, ◌∙◌}
 use Rattle.std.specs.List.{flat_map, list_all}
 use Rattle.fsrm_base.proofs.TestLaws.{both_true}
-use Rattle.image_codec.specs.ImageOut.{cut_off, image_left, left_legal}
+use Rattle.image_codec.specs.ImageOut.{cut_off, image_left}
 use Rattle.image_codec.specs.Pieces.{lent, piece_legal, piece_spelled}
 use Rattle.image_codec.specs.PiecesLeft.{pieces_left}
 use Rattle.image_codec.proofs.LengthLaws.{no_piece}
