@@ -5,7 +5,7 @@ ghost use Rattle.std.specs.List.{list_all};
 ghost use Rattle.image_codec.specs.Pieces.{pieces};
 ghost use Rattle.image_codec.specs.PiecesLeft.{piece_fits};
 
-use crate::values::folder;
+use crate::values::{folder, one};
 use fsrm_model::{List, ReportKind, Rows};
 use image_codec::{CodecFault, ImageIn, ImageOut, image_len};
 use std::alloc::Global;
@@ -23,10 +23,9 @@ const NEW: [u8; 99] = [
 fn new_rows(alloc: Global) -> Result<Rows, Fail>
     ensures { IfOk result (λ R. list_all piece_fits (pieces R) ≡ true) }
 {
-    let mut nodes = List::new(alloc);
-    nodes.push(folder(alloc, 0, 0, "")?)?;
+    let root = folder(alloc, 0, 0, "")?;
     Ok(Rows {
-        nodes,
+        nodes: one(alloc, root)?,
         quotas: List::new(alloc),
         templates: List::new(alloc),
         autos: List::new(alloc),
@@ -63,7 +62,7 @@ fn new_image_written(rt: HostRuntime) -> Result<(), Fail> {
     assert!(rt; image_len(&rows) == 99);
     for size in [1, 7, 98, 99, 100] {
         let bytes = written(rt.alloc(), &rows, size)?;
-        assert!(rt; bytes.as_slice() == &NEW);
+        assert!(rt; bytes.as_slice() == NEW.as_slice());
     }
     Ok(())
 }

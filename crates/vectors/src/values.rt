@@ -46,7 +46,9 @@ pub fn quota(alloc: Global, folder: u32, limit: u64) -> QuotaRow
 }
 
 /// A folder.
-pub fn folder(alloc: Global, number: u32, parent: u32, name: &str) -> Result<NodeRow, Fail> {
+pub fn folder(alloc: Global, number: u32, parent: u32, name: &str) -> Result<NodeRow, Fail>
+    ensures { IfOk result (λ row. row.name ≡ name.now) }
+{
     Ok(NodeRow {
         number,
         parent,
