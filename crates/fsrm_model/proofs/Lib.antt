@@ -7,4 +7,5 @@ pub mod screens
 pub mod templates
 pub mod valid
 pub mod FirstNames
+pub mod JoinedNames
 pub mod journal

@@ -1,7 +1,7 @@
 //! Paths of the volume, by their names.
 
-ghost use Rattle.std.specs.Prelude.{◌≡◌, ◌<◌, ◌∷◌, true, length, position, take, drop};
-ghost use Rattle.std.specs.List.{list_all};
+ghost use Rattle.std.specs.Prelude.{◌≡◌, ◌<◌, ◌-◌, ◌==◌, ◌&&◌, ◌∷◌, true, nat_lt, length, position, slice_index, take, drop};
+ghost use Rattle.std.specs.List.{join_with_byte, list_all};
 ghost use Rattle.std.specs.Str.{IsCharBoundary};
 ghost use Rattle.std.specs.String.{string_bytes};
 ghost use Rattle.fsrm_model.specs.values.Name.{is_name};
@@ -53,6 +53,17 @@ impl Path {
         ensures { result ≡ length self.now }
     {
         self.depth
+    }
+
+    /// Its names, with a backslash between each two.
+    pub fn joined(&self) -> &str
+        ensures { result.now ≡ join_with_byte 92 self.now }
+    {
+        let text = self.text.as_str();
+        if ends_in_backslash(text.as_bytes()) {
+            return before(text, text.len() - 1);
+        }
+        text
     }
 
     /// Its names, from the root's side on.
@@ -117,6 +128,12 @@ fn first_backslash(text: &[u8]) -> Option<usize>
     ensures { result ≡ position is_backslash text.now }
 {
     text.iter().position(|byte| *byte == b'\\')
+}
+
+fn ends_in_backslash(text: &[u8]) -> bool
+    ensures { result ≡ (nat_lt 0 (length text.now) && (slice_index text.now (length text.now - 1) == 92)) }
+{
+    text.len() > 0 && text[text.len() - 1] == b'\\'
 }
 
 fn before(text: &str, place: usize) -> &str

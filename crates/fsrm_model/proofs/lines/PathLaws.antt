@@ -128,7 +128,7 @@ dropped ((b ∷ bs) ∷ parts) = elim (dropped parts) [
 ]
 
 -- the two spellings of the names
-abbrev AreNames : List ℕ → List (List ℕ) → Type 0
+abbrev pub AreNames : List ℕ → List (List ℕ) → Type 0
 AreNames rest path = (rest ≡ join_with_byte 92 path) ⊎ ((0 < length path) × (rest ≡ join_with_byte 92 path ++ 92 ∷ []))
 
 names_joined : (rest : List ℕ) (path parts : List (List ℕ)) → join_with_byte 92 parts ≡ rest → (parts ≡ path) ⊎ (parts ≡ path ++ [] ∷ []) → AreNames rest path
@@ -136,7 +136,7 @@ names_joined rest path parts e (inl same) = inl (sym e ∙ ap (join_with_byte 92
 names_joined rest [] parts e (inr more) = inl (sym e ∙ ap (join_with_byte 92) more)
 names_joined rest (part ∷ path) parts e (inr more) = inr (omega arith, sym e ∙ ap (join_with_byte 92) more ∙ join_last part path)
 
-names_of : (rest : List ℕ) → AreNames rest (without_last_empty (slice_split is_backslash rest))
+pub names_of : (rest : List ℕ) → AreNames rest (without_last_empty (slice_split is_backslash rest))
 names_of rest = names_joined rest (without_last_empty (slice_split is_backslash rest)) (slice_split is_backslash rest) (join_with_byte-slice_split 92 rest) (dropped (slice_split is_backslash rest))
 
 names_parted : (rest : List ℕ) (path : List (List ℕ)) → list_all is_name path ≡ true → AreNames rest path → without_last_empty (slice_split is_backslash rest) ≡ path
