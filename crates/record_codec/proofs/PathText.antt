@@ -1,5 +1,5 @@
 -- The spelling of a path.
-use Rattle.std.proofs.Common.{◌≡◌, ◌⊎◌, inl, inr, ℕ, zero, suc, ◌+◌, ◌-◌, ◌<◌, Bool, true, false, List, [], ◌∷◌, ◌++◌, length, Some, None, Ok, Err, refl, sym, ap, subst, ◌∙◌, arith, length-append, append-nil, append_assoc}
+use Rattle.std.proofs.Common.{◌≡◌, ◌⊎◌, inl, inr, ℕ, zero, suc, ◌+◌, ◌-◌, ◌<◌, Bool, true, false, List, [], ◌∷◌, ◌++◌, length, Some, None, Ok, Err, refl, sym, ap, subst, ◌∙◌, arith, length-append}
 use Rattle.std.specs.Prelude.{◌==◌, ◌&&◌, ◌||◌, ◌/◌, ◌%◌, not, nat_lt, nat_le, slice_index, bytes_eq, codes}
 use Rattle.std.specs.List.{join_with_byte, list_all}
 use Rattle.std.specs.Str.{IsAscii, IsUtf8, is_utf8}
@@ -9,7 +9,7 @@ use Rattle.std.proofs.lemmas.List.{get_or-append-add}
 use Rattle.std.proofs.lemmas.Slice.Eq.{bytes_eq-Decides}
 use Rattle.fsrm_base.proofs.TestLaws.{same_tests}
 use Rattle.fsrm_model.specs.declared.command.Refusal.{Refusal}
-use Rattle.fsrm_model.specs.commands.Entry.{Path, path_length}
+use Rattle.fsrm_model.specs.commands.Entry.{Path}
 use Rattle.fsrm_model.specs.lines.Reading.{path_from}
 use Rattle.fsrm_model.specs.values.Limits.{longest_name}
 use Rattle.fsrm_model.specs.values.Name.{is_name, is_name_byte}
@@ -18,7 +18,7 @@ use Rattle.record_fields.specs.Formats.{number_spelled, text_spelled}
 use Rattle.record_fields.specs.Writers.{Writes}
 use Rattle.record_fields.proofs.WriterLaws.{writes_text}
 use Rattle.record_codec.specs.Fields.{path_text, path_of}
-use Rattle.record_codec.specs.Paths.{slashed, is_spelled_so}
+use Rattle.record_codec.specs.Paths.{is_spelled_so}
 use Rattle.record_codec.specs.Typed.{is_path_text}
 
 -- ---- the last byte of a path
@@ -117,19 +117,6 @@ unfolding path_of
 reads_none text refusal read = rw read refl
 
 -- ---- how a path is written
--- all names after the volume's first two bytes, each after a backslash
-pub slashed_join : (name : List ℕ) (path : Path) → slashed (name ∷ path) ≡ 92 ∷ join_with_byte 92 (name ∷ path)
-slashed_join name [] = ap (λ t. 92 ∷ t) (append-nil name)
-slashed_join name (next ∷ path) = ap (λ t. 92 ∷ (name ++ t)) (slashed_join next path)
-
-pub root_text : (path : Path) → length path ≡ 0 → path_text path ≡ codes "D:\\"
-root_text [] none = refl
-root_text (name ∷ path) none = absurd (omega (arith, none))
-
-pub names_text : (path : Path) → (length path ≡ 0 → ⊥) → path_text path ≡ codes "D:" ++ slashed path
-names_text [] some = absurd (some refl)
-names_text (name ∷ path) some = ap (λ t. codes "D:" ++ t) (sym (slashed_join name path))
-
 -- the low two bytes of a number
 pub low_bytes : (n : ℕ) → number_spelled 2 (n % 65536) ≡ number_spelled 2 n
 unfolding number_spelled
@@ -138,25 +125,13 @@ low_bytes n =
     let second : n % 65536 / 256 % 256 ≡ n / 256 % 256 = omega arith in
     rw (first, second) refl
 
--- one more name is written
-pub one_written : (front name : List ℕ) (before after : Path) (all : List ℕ) → before ≡ name ∷ after → front ++ slashed before ≡ all → ((front ++ 92 ∷ []) ++ name) ++ slashed after ≡ all
-one_written front name before after all steps e =
-    append_assoc (front ++ 92 ∷ []) name (slashed after) ∙ append_assoc front (92 ∷ []) (name ++ slashed after) ∙ ap (λ ns. front ++ slashed ns) (sym steps) ∙ e
-
-pub names_length : (path : Path) → (length path ≡ 0 → ⊥) → path_length path ≡ 2 + length (slashed path)
-names_length [] some = absurd (some refl)
-names_length (name ∷ path) some = omega (arith, ap length (slashed_join name path))
-
--- a path's length, and then its text
-pub path_written : {o m n : List ℕ} {a b c : ℕ} (path : Path) (written : List ℕ) (size : ℕ) → written ≡ path_text path → size ≡ path_length path % 65536
-    → Writes o a m b (number_spelled 2 size) → Writes m b n c written → Writes o a n c (text_spelled (path_text path))
-path_written {o = o} {m = m} {n = n} {a = a} {b = b} {c = c} path written size is long p q =
-    let same : number_spelled 2 size ≡ number_spelled 2 (length (path_text path)) = ap (number_spelled 2) long ∙ low_bytes (path_length path) ∙ ap (number_spelled 2) (omega arith) in
-    writes_text (path_text path) written is (subst (Writes o a m b) same p) q
-
--- names that were written are all of them
-pub all_written : (front : List ℕ) (rest : Path) (all : List ℕ) → rest ≡ [] → front ++ slashed rest ≡ all → front ≡ all
-all_written front rest all none e = sym (append-nil front) ∙ ap (λ ns. front ++ slashed ns) (sym none) ∙ e
+-- a path's length, and then its text: the volume, and the names
+pub path_written : {o m n : List ℕ} {a b c : ℕ} (path : Path) (names : List ℕ) (size : ℕ) → names ≡ join_with_byte 92 path → size ≡ (3 + length names) % 65536
+    → Writes o a m b (number_spelled 2 size) → Writes m b n c (codes "D:\\" ++ names) → Writes o a n c (text_spelled (path_text path))
+path_written {o = o} {m = m} {a = a} {b = b} path names size is low p q =
+    let text : codes "D:\\" ++ names ≡ path_text path = ap (λ ns. codes "D:\\" ++ ns) is in
+    let same : number_spelled 2 size ≡ number_spelled 2 (length (path_text path)) = ap (number_spelled 2) low ∙ low_bytes (3 + length names) ∙ ap (number_spelled 2) (omega (arith, ap length text)) in
+    writes_text (path_text path) (codes "D:\\" ++ names) text (subst (Writes o a m b) same p) q
 
 -- ---- a path's text is UTF-8
 are_ascii : (bytes : List ℕ) → list_all (λ b. nat_lt b 128) bytes ≡ true → IsAscii bytes
@@ -167,14 +142,7 @@ are_ascii (b ∷ bytes) all (suc i) = are_ascii bytes (and_parts (nat_lt b 128) 
 pub ascii_text : (bytes : List ℕ) → list_all (λ b. nat_lt b 128) bytes ≡ true → IsUtf8 bytes
 ascii_text bytes all = IsUtf8-from_ascii bytes (are_ascii bytes all)
 
-pub slash_text : IsUtf8 (92 ∷ [])
-slash_text = ascii_text (92 ∷ []) refl
-
-pub root_is_text : IsUtf8 (codes "D:\\")
-root_is_text = ascii_text (codes "D:\\") refl
-
-pub names_are_text : (names : List ℕ) → IsUtf8 names → IsUtf8 (codes "D:" ++ names)
-names_are_text names are = IsUtf8-append (codes "D:") names (ascii_text (codes "D:") refl) are
-
-pub is_path_text_of : (path : Path) (text : List ℕ) → path_text path ≡ text → IsUtf8 text → is_path_text path ≡ true
-is_path_text_of path text is are = ap is_utf8 is ∙ is_utf8-from_IsUtf8 text are
+pub is_path_text_of : (path : Path) (names : List ℕ) → names ≡ join_with_byte 92 path → IsUtf8 names → is_path_text path ≡ true
+is_path_text_of path names is are =
+    ap (λ ns. is_utf8 (codes "D:\\" ++ ns)) (sym is)
+    ∙ is_utf8-from_IsUtf8 (codes "D:\\" ++ names) (IsUtf8-append (codes "D:\\") names (ascii_text (codes "D:\\") refl) are)

@@ -1,17 +1,14 @@
 //! Paths.
 
 ghost use Rattle.std.specs.Prelude.{◌≡◌, ◌≤◌, ◌==◌, ◌+◌, ◌-◌, ◌%◌, ◌++◌, true, length, slice_index};
-ghost use Rattle.std.specs.Str.{IsUtf8};
-ghost use Rattle.fsrm_model.specs.commands.Entry.{path_length};
-ghost use Rattle.fsrm_model.specs.meaning.PathNames.{left};
 ghost use Rattle.record_fields.specs.Formats.{number_spelled, text_spelled};
 ghost use Rattle.record_fields.specs.Writers.{Writes};
 ghost use Rattle.record_codec.specs.Decoding.{Finds};
 ghost use Rattle.record_codec.specs.Fields.{path, path_of, path_text};
-ghost use Rattle.record_codec.specs.Paths.{slashed, is_spelled_so};
+ghost use Rattle.record_codec.specs.Paths.{is_spelled_so};
 ghost use Rattle.record_codec.specs.Typed.{is_path_text};
 
-use fsrm_model::{Names, Path};
+use fsrm_model::Path;
 use name_rules::{PathFault, read_path};
 use record_fields::{Field, FieldFault, Flaw, Reader, put, put_u8, put_u16};
 use std::alloc::Global;
@@ -81,12 +78,10 @@ pub fn put_path(path: &Path, into: &mut [u8], at: usize) -> usize
     ensures written { Writes into.old at into.new result (text_spelled (path_text path.now)) }
     ensures text { is_path_text path.now ≡ true }
 {
-    let after = put_u16(into, at, low_len(path));
-    if path.depth() == 0 {
-        return put(into, after, b"D:\\");
-    }
-    let begun = put(into, after, b"D:");
-    put_names(path.names(), into, begun)
+    let names = path.joined();
+    let after = put_u16(into, at, low_len(names));
+    let begun = put(into, after, b"D:\\");
+    put(into, begun, names.as_bytes())
 }
 
 /// Writes the byte of a kind whose first value is a path, and this path. Its text is UTF-8.
@@ -99,41 +94,10 @@ pub fn put_on_path(kind: u8, path: &Path, into: &mut [u8], at: usize) -> usize
     put_path(path, into, after)
 }
 
-// Writes names, each after a backslash.
-fn put_names(names: Names<'_>, into: &mut [u8], at: usize) -> usize
-    requires { at ≤ length into.old }
-    ensures written { Writes into.old at into.new result (slashed (left names.entry)) }
-    ensures text { IsUtf8 (slashed (left names.entry)) }
+// How long the text of a path with these names is, modulo 2^16. An entry is only written of a path for which this is
+// its whole length.
+fn low_len(names: &str) -> u16
+    ensures { result ≡ (3 + length names.now) % 65536 }
 {
-    let mut names = names;
-    let mut end = at;
-    while let Some(name) = names.next() {
-        let after = put(into, end, b"\\");
-        end = put(into, after, name.as_bytes());
-    }
-    end
-}
-
-// How long a path's text is, modulo 2^16. An entry is only written of a path for which this is its whole length.
-fn low_len(path: &Path) -> u16
-    ensures { result ≡ path_length path.now % 65536 }
-{
-    if path.depth() == 0 {
-        return 3;
-    }
-    low_len_of(path.names())
-}
-
-// The same of its names, each after a backslash, with two bytes for the volume.
-fn low_len_of(names: Names<'_>) -> u16
-    ensures { result ≡ (2 + length (slashed (left names.entry))) % 65536 }
-{
-    let mut names = names;
-    let mut len: u16 = 2;
-    while let Some(name) = names.next() {
-        len = len
-            .wrapping_add(1)
-            .wrapping_add((name.len() % 65_536) as u16);
-    }
-    len
+    ((3 + names.len()) % 65_536) as u16
 }
