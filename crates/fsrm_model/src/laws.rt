@@ -1,6 +1,6 @@
 //! Laws of the definitions, and worked examples.
 
-ghost use Rattle.std.specs.Prelude.{◌≡◌, ◌↔◌, ℕ, ◌+◌, ◌*◌, ◌<◌, ◌≤◌, ◌==◌, ◌&&◌, ◌||◌, not, nat_le, List, [], ◌∷◌, ◌++◌, ◌⊎◌, true, false, Option, Some, None, Ok, Err, if◌then◌else◌, filter, is_some, length, option_map, slice_get, sum_by, pos, unwrap_or};
+ghost use Rattle.std.specs.Prelude.{◌≡◌, ◌↔◌, ℕ, ◌+◌, ◌*◌, ◌<◌, ◌≤◌, ◌==◌, ◌&&◌, ◌||◌, not, nat_le, List, [], ◌∷◌, ◌++◌, ◌⊎◌, true, false, Option, Some, None, Ok, Err, if◌then◌else◌, filter, is_some, length, option_map, slice_get, sum_by, take, pos, unwrap_or};
 ghost use Rattle.std.specs.List.{list_all, list_any, AllByRecursion};
 ghost use Rattle.jiff_core.specs.Calendar.{days_from_civil};
 ghost use Rattle.fsrm_model.specs.declared.command.Act.{Act};
@@ -55,7 +55,7 @@ ghost use Rattle.fsrm_model.specs.objects.Reached.{reached, IsReached, crossed};
 ghost use Rattle.fsrm_model.specs.meaning.Receives.{Modifies, with_auto, moved_folder, Gives};
 ghost use Rattle.fsrm_model.specs.store.OldReplays.{AreOldEntries, old_replayed};
 ghost use Rattle.fsrm_model.specs.objects.QuotaStates.{head};
-ghost use Rattle.fsrm_model.specs.store.Replays.{finish, after_entry, replayed, recovered, is_scan_step, lasts, journal_entry, command_entries, entries_from, is_valid_entry, none_rebuilding, IsJournaled};
+ghost use Rattle.fsrm_model.specs.store.Replays.{finish, finish_acts, after_entry, replayed, recovered, is_scan_step, lasts, journal_entry, command_entries, entries_from, is_valid_entry, none_rebuilding, IsJournaled};
 ghost use Rattle.fsrm_model.specs.objects.Runs.{run_quota, last_entries, ran};
 ghost use Rattle.fsrm_model.specs.objects.Scan.{visits};
 ghost use Rattle.fsrm_model.specs.lines.Script.{fold_from, is_end, lines, spelled_lines, AreLines, without_cr, replied, text, text_from};
@@ -256,8 +256,6 @@ pub fn plain_machine()
     ensures left { (K : Capacity) (R : Rows) (c : Command) (refusal : Refusal) → (step K R c).outcome ≡ Refused refusal → (step K R c).rows ≡ left_after K R c.moment (work K R c.moment c.deed) refusal }
     // They are its acts, and it lasts exactly if it leaves something.
     ensures runs { (K : Capacity) (R : Rows) (c : Command) (refusal : Refusal) → (step K R c).outcome ≡ Refused refusal → ((step K R c).acts ≡ run_by_refusal K R c.moment (work K R c.moment c.deed) refusal) × ((step K R c).lasting ≡ may_leave K R c.moment (work K R c.moment c.deed) refusal) }
-    // A command that doesn't last leaves all that a store keeps.
-    ensures passing { (K : Capacity) (R : Rows) (c : Command) → IsValid K R → (step K R c).lasting ≡ false → lasting (step K R c).rows ≡ lasting R }
     // A sum is made afresh from the tree: the space of the node itself, if it is a file, or of all files below it.
     ensures sum { (K : Capacity) (R : Rows) (c : Command) (node bytes : ℕ) → (step K R c).outcome ≡ Sum node bytes → bytes ≡ sum_by (space K) (under R.nodes node) }
 {}
@@ -362,17 +360,21 @@ pub fn journal()
     // Which commands last. Each of them has a kind of entry, unless it is a step of a scan.
     ensures lasts { (K : Capacity) (R : Rows) (c : Command) → (step K R c).lasting ≡ lasts K R c }
     ensures kinds { (K : Capacity) (R : Rows) (c : Command) → IsValid K R → is_scan_step c.deed ≡ false → (step K R c).lasting ≡ true → is_some (kind c.deed) ≡ true }
+    // What is kept of rows stays the same after a command that doesn't last.
+    ensures passing { (K : Capacity) (R : Rows) (c : Command) → IsValid K R → (step K R c).lasting ≡ false → lasting (step K R c).rows ≡ lasting R }
     // If the same is kept of two rows, the same is kept of what a command leaves of either. It answers the same, lasts
     // with both or with neither, and has the same actions run. Only a step of a scan doesn't: what is visited isn't kept.
     ensures same_rows { (K : Capacity) (R Q : Rows) (c : Command) → is_scan_step c.deed ≡ false → lasting Q ≡ lasting R → lasting (step K Q c).rows ≡ lasting (step K R c).rows }
     ensures same_answer { (K : Capacity) (R Q : Rows) (c : Command) → is_scan_step c.deed ≡ false → lasting Q ≡ lasting R → ((step K Q c).lasting ≡ (step K R c).lasting) × ((step K Q c).outcome ≡ (step K R c).outcome) × ((step K Q c).acts ≡ (step K R c).acts) }
-    // The same is kept of what a finish leaves of either, too. It leaves valid rows.
+    // The same is kept of what a finish leaves of either, too, and it has the same actions run. It leaves valid rows.
     ensures same_finish { (K : Capacity) (R Q : Rows) (moment folder : ℕ) → lasting Q ≡ lasting R → lasting (finish K Q moment folder) ≡ lasting (finish K R moment folder) }
+    ensures same_finish_acts { (K : Capacity) (R Q : Rows) (moment folder : ℕ) → lasting Q ≡ lasting R → finish_acts K Q moment folder ≡ finish_acts K R moment folder }
     ensures valid_finish { (K : Capacity) (R : Rows) (moment folder : ℕ) → IsValid K R → moment ≤ latest_moment → IsValid K (finish K R moment folder) }
     // A step that finishes a scan is its visits, and then a finish of the folder at the head of the queue. So that
-    // finish alone does the same, as far as it is kept.
+    // finish alone does the same, as far as it is kept, and has the same actions run.
     ensures visits { (K : Capacity) (R : Rows) (moment n : ℕ) → IsValid K R → (step K R (record { moment = moment; deed = Step n })).lasting ≡ true → (step K R (record { moment = moment; deed = Step n })).rows ≡ finish K (record R { unvisited = visits n R.nodes R.unvisited }) moment (unwrap_or (head R.queue) 0) }
     ensures finishes { (K : Capacity) (R Q : Rows) (moment n : ℕ) → IsValid K R → lasting Q ≡ lasting R → (step K R (record { moment = moment; deed = Step n })).lasting ≡ true → lasting (finish K Q moment (unwrap_or (head R.queue) 0)) ≡ lasting (step K R (record { moment = moment; deed = Step n })).rows }
+    ensures finish_acts { (K : Capacity) (R Q : Rows) (moment n : ℕ) → IsValid K R → lasting Q ≡ lasting R → (step K R (record { moment = moment; deed = Step n })).lasting ≡ true → finish_acts K Q moment (unwrap_or (head R.queue) 0) ≡ (step K R (record { moment = moment; deed = Step n })).acts }
     // The entry of a command that lasts does what the command did, as far as it is kept. It is valid if the command is,
     // and valid entries leave valid rows.
     ensures entry { (K : Capacity) (R Q : Rows) (c : Command) → IsValid K R → lasting Q ≡ lasting R → (step K R c).lasting ≡ true → lasting (after_entry K Q (journal_entry R c)) ≡ lasting (step K R c).rows }
@@ -384,6 +386,9 @@ pub fn journal()
     ensures again { (K : Capacity) (base : Rows) (entries : List Entry) → IsValid K base → list_all is_valid_entry entries ≡ true → IsJournaled K base entries (recovered K base entries) }
     ensures next { (K : Capacity) (base : Rows) (entries : List Entry) (R : Rows) (c : Command) → IsJournaled K base entries R → is_command c ≡ true → IsJournaled K base (entries ++ command_entries K R c) (step K R c).rows }
     ensures lines { (K : Capacity) (base : Rows) (entries : List Entry) (R : Rows) (n : ℕ) (lines : List (List ℕ)) → IsJournaled K base entries R → IsJournaled K base (entries ++ entries_from K R n lines) (fold_from K R n lines) }
+    // A front of the entries of lines is all entries of a front of the lines. So what is recovered by it is what is kept
+    // of the rows after these.
+    ensures fronts { (K : Capacity) (R : Rows) (n : ℕ) (lines : List (List ℕ)) (place : ℕ) → (j : ℕ) × (take place (entries_from K R n lines) ≡ entries_from K R n (take j lines)) }
     // Entries of commands that lasted before a refusal for a quota had actions run come to the same.
     ensures old { (K : Capacity) (R : Rows) (entries : List Entry) → AreOldEntries K R entries → old_replayed K R entries ≡ replayed K R entries }
 {}

@@ -1,6 +1,6 @@
 -- What the entries of a journal make of rows is what the machine made of them, as far as it is kept.
-use Rattle.std.proofs.Common.{◌≡◌, ℕ, ◌+◌, ◌&&◌, Bool, true, false, List, [], ◌∷◌, ◌++◌, refl, sym, ◌∙◌, ap, subst, Some, None, Option}
-use Rattle.std.specs.Prelude.{◌≤◌, nat_le, Err, Ok, unwrap_or, if◌then◌else◌}
+use Rattle.std.proofs.Common.{◌≡◌, ℕ, zero, suc, ◌+◌, ◌&&◌, Bool, true, false, List, [], ◌∷◌, ◌++◌, refl, sym, ◌∙◌, ap, subst, ◌⊎◌, inl, inr, Some, None, Option}
+use Rattle.std.specs.Prelude.{◌≤◌, nat_le, Err, Ok, unwrap_or, take, if◌then◌else◌}
 use Rattle.std.specs.List.{AllByRecursion, list_all}
 use Rattle.std.specs.Option.{option_map_or}
 use Rattle.fsrm_base.proofs.TestLaws.{both, le_is}
@@ -18,14 +18,15 @@ use Rattle.fsrm_model.specs.values.Limits.{latest_moment, longest_path, longest_
 use Rattle.fsrm_model.specs.lines.Line.{read_line}
 use Rattle.fsrm_model.specs.objects.QuotaStates.{head}
 use Rattle.fsrm_model.specs.lines.Reading.{Read}
-use Rattle.fsrm_model.specs.store.Replays.{finish, after_entry, replayed, recovered, is_scan_step, deed_entry, journal_entry, command_entries, read_entries, line_entries, entries_from, is_valid_entry, IsJournaled}
+use Rattle.fsrm_model.specs.objects.Scan.{visits}
+use Rattle.fsrm_model.specs.store.Replays.{finish, finish_acts, after_entry, replayed, recovered, is_scan_step, deed_entry, journal_entry, command_entries, read_entries, line_entries, entries_from, is_valid_entry, IsJournaled}
 use Rattle.fsrm_model.specs.lines.Script.{Replied, replied, replied_to, fold_from, without_cr}
 use Rattle.fsrm_model.specs.commands.Step.{step}
 use Rattle.fsrm_model.specs.store.Valid.{is_moment, IsValid}
 use Rattle.fsrm_model.specs.store.Valued.{is_deed, is_short_path, is_short, is_command}
 use Rattle.fsrm_model.proofs.commands.EachCommand.{kept_alike, lasting_kept, step_valid}
 use Rattle.fsrm_model.proofs.journal.AlikeSteps.{StepsAlike}
-use Rattle.fsrm_model.proofs.journal.FinishLaws.{lasting_valid, finish_alike, finish_valid, step_finishes}
+use Rattle.fsrm_model.proofs.journal.FinishLaws.{lasting_valid, finish_alike, finish_acts_alike, finish_valid, step_is_finish, step_finishes}
 use Rattle.fsrm_model.proofs.journal.KeptEnds.{lasting_twice}
 use Rattle.fsrm_model.proofs.lines.PlainMachine.{replied-read}
 use Rattle.fsrm_model.proofs.lines.SpelledValues.{spelled_valid}
@@ -48,6 +49,16 @@ same_steps K R Q c other h =
 pub same_finish : (K : Capacity) (R Q : Rows) (moment folder : ℕ) → lasting Q ≡ lasting R → lasting (finish K Q moment folder) ≡ lasting (finish K R moment folder)
 same_finish K R Q moment folder h =
     sym (finish_alike K Q moment folder).same ∙ (ap (λ (L : Rows). lasting (finish K L moment folder)) h ∙ (finish_alike K R moment folder).same)
+
+pub same_finish_acts : (K : Capacity) (R Q : Rows) (moment folder : ℕ) → lasting Q ≡ lasting R → finish_acts K Q moment folder ≡ finish_acts K R moment folder
+same_finish_acts K R Q moment folder h =
+    sym (finish_acts_alike K Q moment folder) ∙ (ap (λ (L : Rows). finish_acts K L moment folder) h ∙ finish_acts_alike K R moment folder)
+
+-- the finish of a scan has the actions run that the step had run which finished it
+pub step_acts : (K : Capacity) (R Q : Rows) (moment n : ℕ) → IsValid K R → lasting Q ≡ lasting R → (step K R (record { moment = moment; deed = Step n })).lasting ≡ true → finish_acts K Q moment (unwrap_or (head R.queue) 0) ≡ (step K R (record { moment = moment; deed = Step n })).acts
+step_acts K R Q moment n s h l =
+    same_finish_acts K (record R { unvisited = visits n R.nodes R.unvisited }) Q moment (unwrap_or (head R.queue) 0) h
+    ∙ sym (step_is_finish K R moment n s l).acts
 
 -- ---- entries
 pub replayed_more : (K : Capacity) (R : Rows) (entries more : List Entry) → replayed K R (entries ++ more) ≡ replayed K (replayed K R entries) more
@@ -149,6 +160,46 @@ pub journaled_lines : (K : Capacity) (base : Rows) (entries : List Entry) (R : R
 journaled_lines K base entries R n lines is =
     journaled_more K base entries (entries_from K R n lines) (fold_from K R n lines)
     (lines_journaled K (replayed K base entries) R n lines (record { recovers = is.recovers; valid = is.valid }))
+
+-- ---- a front of the entries of lines
+-- a line has one entry at most
+abbrev HasFew : List Entry → Type 0
+HasFew entries = (entries ≡ []) ⊎ ((entry : Entry) × (entries ≡ entry ∷ []))
+
+few_entries : (K : Capacity) (R : Rows) (line : List ℕ) → HasFew (line_entries K R line)
+few_entries K R line = subst HasFew (sym (line_entries-read K R line (read_line (without_cr line)) refl)) (read (read_line (without_cr line)))
+  where
+    kept : (entry : Entry) (b : Bool) → HasFew (if b then entry ∷ [] else [])
+    kept entry true = inr (entry, refl)
+    kept entry false = inl refl
+
+    read : (r : Option (Read Command)) → HasFew (read_entries K R r)
+    read None = inl refl
+    read (Some (Err refusal)) = inl refl
+    read (Some (Ok c)) = kept (journal_entry R c) (step K R c).lasting
+
+-- these are all entries of a front of the lines
+abbrev IsFront : Capacity → Rows → ℕ → List (List ℕ) → List Entry → Type 0
+IsFront K R n lines entries = (j : ℕ) × (entries ≡ entries_from K R n (take j lines))
+
+line_front : (K : Capacity) (R : Rows) (n place : ℕ) (line : List ℕ) (lines : List (List ℕ)) → ((at : ℕ) → IsFront K (replied K R n line).rows (n + 1) lines (take at (entries_from K (replied K R n line).rows (n + 1) lines))) → IsFront K R n (line ∷ lines) (take (suc place) (entries_from K R n (line ∷ lines)))
+line_front K R n place line lines rest = let front = by (line_entries K R line) (few_entries K R line) in (suc front.0, front.1)
+  where
+    more : List (List ℕ) → List Entry
+    more lines = entries_from K (replied K R n line).rows (n + 1) lines
+
+    Front : List Entry → Type 0
+    Front entries = (j : ℕ) × (take (suc place) (entries ++ more lines) ≡ entries ++ more (take j lines))
+
+    by : (entries : List Entry) → HasFew entries → Front entries
+    by entries (inl e) = subst Front (sym e) (rest (suc place))
+    by entries (inr (entry, e)) = subst Front (sym e) ((rest place).0, ap (λ entries. entry ∷ entries) (rest place).1)
+
+pub lines_front : (K : Capacity) (R : Rows) (n : ℕ) (lines : List (List ℕ)) (place : ℕ) → (j : ℕ) × (take place (entries_from K R n lines) ≡ entries_from K R n (take j lines))
+lines_front K R n lines zero = (0, refl)
+lines_front K R n [] (suc place) = (0, refl)
+lines_front K R n (line ∷ lines) (suc place) =
+    line_front K R n place line lines (λ at. lines_front K (replied K R n line).rows (n + 1) lines at)
 
 -- ---- an entry that can be spelled
 -- what is known of the sizes of a valid command that has an entry

@@ -21,7 +21,7 @@ use Rattle.fsrm_model.specs.store.Lasting.{flagged, flagged_quota, lasting}
 use Rattle.fsrm_model.specs.values.Limits.{latest_moment}
 use Rattle.fsrm_model.specs.objects.Quota.{folder_of, quota_of, peaks}
 use Rattle.fsrm_model.specs.objects.QuotaStates.{head, is_rebuilding, state_of, with_state, followed}
-use Rattle.fsrm_model.specs.store.Replays.{is_unfinished, finished, finish}
+use Rattle.fsrm_model.specs.store.Replays.{is_unfinished, completed, finished, finish, finish_acts}
 use Rattle.fsrm_model.specs.objects.Scan.{visits}
 use Rattle.fsrm_model.specs.commands.ScanWork.{step_work}
 use Rattle.fsrm_model.specs.commands.Step.{Stepped, unacted, decided, lasted, unlasting, screened, step}
@@ -30,7 +30,7 @@ use Rattle.fsrm_model.specs.store.ValidScans.{IsQueue}
 use Rattle.fsrm_model.specs.commands.Work.{Work}
 use Rattle.fsrm_model.proofs.commands.ScanCommands.{some_head, state_followed}
 use Rattle.fsrm_model.proofs.journal.Alike.{RowsAlike, lasting_alike, with_state_alike}
-use Rattle.fsrm_model.proofs.journal.AlikeSteps.{lasted_alike}
+use Rattle.fsrm_model.proofs.journal.AlikeSteps.{StepsAlike, lasted_alike}
 use Rattle.fsrm_model.proofs.journal.KeptEnds.{state_lasting}
 use Rattle.fsrm_model.proofs.journal.KeptQuotas.{kept, kept_twice, kept_row, kept_bytes, rebuilding_flagged}
 use Rattle.fsrm_model.proofs.thresholds.KeptLaws.{same_texts}
@@ -84,18 +84,26 @@ unfinished_flagged Incomplete = refl
 unfinished_lasting : (R : Rows) (folder : ℕ) → is_unfinished (state_of (lasting R) folder) ≡ is_unfinished (state_of R folder)
 unfinished_lasting R folder = ap is_unfinished (state_lasting R folder) ∙ unfinished_flagged (state_of R folder)
 
-finished_alike : (K : Capacity) (R : Rows) (moment folder : ℕ) → RowsAlike (finished K R moment folder) (finished K (lasting R) moment folder)
-finished_alike K R moment folder =
-    (lasted_alike K R (unacted (followed R (with_state R folder Complete))) (unacted (followed (lasting R) (with_state (lasting R) folder Complete))) moment (Done None)
-    (ap (λ (rows : Rows). record { rows = rows; acts = [] }) (with_state_alike R folder Complete Complete refl R.quotas (kept R.quotas) (kept_twice R.quotas)).same)).rows
+completed_alike : (K : Capacity) (R : Rows) (moment folder : ℕ) → StepsAlike (lasted K R (unacted (followed R (with_state R folder Complete))) moment (Done None)) (lasted K (lasting R) (unacted (followed (lasting R) (with_state (lasting R) folder Complete))) moment (Done None))
+completed_alike K R moment folder =
+    lasted_alike K R (unacted (followed R (with_state R folder Complete))) (unacted (followed (lasting R) (with_state (lasting R) folder Complete))) moment (Done None)
+    (ap (λ (rows : Rows). record { rows = rows; acts = [] }) (with_state_alike R folder Complete Complete refl R.quotas (kept R.quotas) (kept_twice R.quotas)).same)
 
 pub finish_alike : (K : Capacity) (R : Rows) (moment folder : ℕ) → RowsAlike (finish K R moment folder) (finish K (lasting R) moment folder)
 finish_alike K R moment folder =
     subst (λ b. RowsAlike (finish K R moment folder) (cond b (finished K (lasting R) moment folder) (lasting R))) (sym (unfinished_lasting R folder)) (at (is_unfinished (state_of R folder)))
   where
     at : (b : Bool) → RowsAlike (cond b (finished K R moment folder) R) (cond b (finished K (lasting R) moment folder) (lasting R))
-    at true = finished_alike K R moment folder
+    at true = (completed_alike K R moment folder).rows
     at false = lasting_alike R
+
+pub finish_acts_alike : (K : Capacity) (R : Rows) (moment folder : ℕ) → finish_acts K (lasting R) moment folder ≡ finish_acts K R moment folder
+finish_acts_alike K R moment folder =
+    ap (λ b. cond b (completed K (lasting R) moment folder).acts []) (unfinished_lasting R folder) ∙ at (is_unfinished (state_of R folder))
+  where
+    at : (b : Bool) → cond b (completed K (lasting R) moment folder).acts [] ≡ cond b (completed K R moment folder).acts []
+    at true = (completed_alike K R moment folder).acts
+    at false = refl
 
 -- it keeps valid rows
 unfinished_there : (R : Rows) (folder : ℕ) (o : Option QuotaRow) → quota_of R folder ≡ o → is_unfinished (option_map_or (λ (q : QuotaRow). q.state) o Disabled) ≡ true → has_row folder_of folder R.quotas ≡ true
@@ -130,7 +138,11 @@ head_unfinished K R s h =
     ∙ rebuilding_unfinished found.row.state (sym (s.queue.rebuilding scanned found.row found.is) ∙ here)
 
 -- a step that finishes a scan is its visits, and then a finish of the folder at the head of the queue
-pub step_is_finish : (K : Capacity) (R : Rows) (moment n : ℕ) → IsValid K R → (step K R (record { moment = moment; deed = Step n })).lasting ≡ true → (step K R (record { moment = moment; deed = Step n })).rows ≡ finish K (record R { unvisited = visits n R.nodes R.unvisited }) moment (unwrap_or (head R.queue) 0)
+pub record IsFinish (K : Capacity) (R : Rows) (moment folder : ℕ) (s : Stepped) : Type 0 where
+  pub rows : s.rows ≡ finish K R moment folder
+  pub acts : s.acts ≡ finish_acts K R moment folder
+
+pub step_is_finish : (K : Capacity) (R : Rows) (moment n : ℕ) → IsValid K R → (step K R (record { moment = moment; deed = Step n })).lasting ≡ true → IsFinish K (record R { unvisited = visits n R.nodes R.unvisited }) moment (unwrap_or (head R.queue) 0) (step K R (record { moment = moment; deed = Step n }))
 step_is_finish K R moment n s l = by (nat_lt moment R.last_moment) (length R.queue == 0) refl l
   where
     w : Work
@@ -150,11 +162,16 @@ step_is_finish K R moment n s l = by (nat_lt moment R.last_moment) (length R.que
         let after = followed R (if ends then with_state visited scanned Complete else visited) in
         if ends then lasted K R (screened after moment None) moment w.outcome else unlasting after w.outcome
 
-    at : (ends : Bool) → (length R.queue == 0) ≡ false → (ended ends).lasting ≡ true → (ended ends).rows ≡ finish K visited moment scanned
-    at true some l = sym (ap (λ b. if b then finished K visited moment scanned else visited) (head_unfinished K R s some))
+    at : (ends : Bool) → (length R.queue == 0) ≡ false → (ended ends).lasting ≡ true → IsFinish K visited moment scanned (ended ends)
+    at true some l =
+        let unfinished = head_unfinished K R s some in
+        record {
+          rows = sym (ap (λ b. if b then finished K visited moment scanned else visited) unfinished);
+          acts = sym (ap (λ b. if b then (completed K visited moment scanned).acts else []) unfinished);
+        }
     at false some l = absurd (cc l)
 
-    by : (late none : Bool) → (length R.queue == 0) ≡ none → (decided K R moment w (first ((ClockBack when late) ∷ (NothingToScan when none) ∷ []))).lasting ≡ true → (decided K R moment w (first ((ClockBack when late) ∷ (NothingToScan when none) ∷ []))).rows ≡ finish K visited moment scanned
+    by : (late none : Bool) → (length R.queue == 0) ≡ none → (decided K R moment w (first ((ClockBack when late) ∷ (NothingToScan when none) ∷ []))).lasting ≡ true → IsFinish K visited moment scanned (decided K R moment w (first ((ClockBack when late) ∷ (NothingToScan when none) ∷ [])))
     by true none e l = absurd (cc l)
     by false true e l = absurd (cc l)
     by false false e l = at (length left == 0) e l
@@ -165,5 +182,5 @@ step_finishes K R moment n s l =
     record {
       same =
           (finish_alike K (record R { unvisited = visits n R.nodes R.unvisited }) moment (unwrap_or (head R.queue) 0)).same
-          ∙ ap lasting (sym (step_is_finish K R moment n s l));
+          ∙ ap lasting (sym (step_is_finish K R moment n s l).rows);
     }

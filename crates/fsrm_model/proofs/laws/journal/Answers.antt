@@ -1,6 +1,6 @@
 use Rattle.fsrm_model.specs.declared.command.Deed.TheVariants.{Step}
-use Rattle.fsrm_model.proofs.commands.EachCommand.{lasts_is, lasting_kind}
-use Rattle.fsrm_model.proofs.journal.EntryLaws.{same_steps, same_finish, entry_kept, entry_valid, journal_entry_valid, journaled_new, journaled_again, journaled_next, journaled_lines}
+use Rattle.fsrm_model.proofs.commands.EachCommand.{lasts_is, lasting_kind, lasting_kept}
+use Rattle.fsrm_model.proofs.journal.EntryLaws.{same_steps, same_finish, same_finish_acts, step_acts, entry_kept, entry_valid, journal_entry_valid, journaled_new, journaled_again, journaled_next, journaled_lines, lines_front}
 use Rattle.fsrm_model.proofs.journal.FinishLaws.{lasting_valid, finish_valid, step_is_finish}
 use Rattle.fsrm_model.proofs.journal.KeptEnds.{lasting_twice}
 use Rattle.fsrm_model.proofs.journal.OldLaws.{old_replayed_same}
@@ -22,6 +22,9 @@ returns-clause-lasts c = lasts_is
 pub returns-clause-kinds : goal.returns-clause-kinds
 returns-clause-kinds c = lasting_kind
 
+pub returns-clause-passing : goal.returns-clause-passing
+returns-clause-passing c = lasting_kept
+
 pub returns-clause-same_rows : goal.returns-clause-same_rows
 returns-clause-same_rows c = λ K R Q command other h. (same_steps K R Q command other h).rows.same
 
@@ -31,14 +34,20 @@ returns-clause-same_answer c = λ K R Q command other h. let same = same_steps K
 pub returns-clause-same_finish : goal.returns-clause-same_finish
 returns-clause-same_finish c = same_finish
 
+pub returns-clause-same_finish_acts : goal.returns-clause-same_finish_acts
+returns-clause-same_finish_acts c = same_finish_acts
+
 pub returns-clause-valid_finish : goal.returns-clause-valid_finish
 returns-clause-valid_finish c = finish_valid
 
 pub returns-clause-visits : goal.returns-clause-visits
-returns-clause-visits c = step_is_finish
+returns-clause-visits c = λ K R moment n s l. (step_is_finish K R moment n s l).rows
 
 pub returns-clause-finishes : goal.returns-clause-finishes
 returns-clause-finishes c = λ K R Q moment n s h l. entry_kept K R Q (record { moment = moment; deed = Step n }) s h l
+
+pub returns-clause-finish_acts : goal.returns-clause-finish_acts
+returns-clause-finish_acts c = step_acts
 
 pub returns-clause-entry : goal.returns-clause-entry
 returns-clause-entry c = entry_kept
@@ -60,6 +69,9 @@ returns-clause-next c = journaled_next
 
 pub returns-clause-lines : goal.returns-clause-lines
 returns-clause-lines c = journaled_lines
+
+pub returns-clause-fronts : goal.returns-clause-fronts
+returns-clause-fronts c = lines_front
 
 pub returns-clause-old : goal.returns-clause-old
 returns-clause-old c = old_replayed_same

@@ -1,7 +1,7 @@
 use Rattle.std.proofs.Common.{ap, Some, None}
 use Rattle.std.specs.Prelude.{Err, Ok}
 use Rattle.fsrm_model.specs.lines.Script.{Replied, without_cr}
-use Rattle.fsrm_model.proofs.commands.EachCommand.{lasting_kept, refused_or_exception, refused_leaves, sum_fresh}
+use Rattle.fsrm_model.proofs.commands.EachCommand.{refused_or_exception, refused_leaves, sum_fresh}
 use Rattle.fsrm_model.proofs.lines.PlainMachine.{replied-read}
 use Rattle.fsrm_model.proofs.lines.SpellingLaws.{spelled_reads, skips_read}
 use Rattle.fsrm_model.proofs.laws.plain_machine.Goals as goal
@@ -20,9 +20,6 @@ returns-clause-left c = λ K R command refusal h. (refused_leaves K R command re
 
 pub returns-clause-runs : goal.returns-clause-runs
 returns-clause-runs c = λ K R command refusal h. let left = refused_leaves K R command refusal h in (left.acts_are, left.lasts)
-
-pub returns-clause-passing : goal.returns-clause-passing
-returns-clause-passing c = lasting_kept
 
 pub returns-clause-sum : goal.returns-clause-sum
 returns-clause-sum c = sum_fresh
