@@ -74,7 +74,7 @@ ghost use Rattle.fsrm_model.specs.store.Valued.{is_command};
 ghost use Rattle.fsrm_model.specs.store.ValidScans.{is_queue, IsQueue, are_left, AreLeft};
 ghost use Rattle.fsrm_model.specs.worked.WorkedThresholds.{run_limit, scan_ends_above, refused_writes, refused_below, refused_above, refused_move, acts_in_order, changed_quotas, run_limit_setting, threshold_options, threshold_values, long_lists, refused_then};
 ghost use Rattle.fsrm_model.specs.commands.Work.{Judged};
-ghost use Rattle.fsrm_model.specs.worked.WorkedReplays.{unfinished_scan, finished_scan, refused_write};
+ghost use Rattle.fsrm_model.specs.worked.WorkedReplays.{unfinished_scan, finished_scan, finished_action, refused_write};
 ghost use Rattle.fsrm_model.specs.worked.WorkedScreens.{members_and_others, blocked_entry, exceptions, exception_above, beside_quotas, nearest_screens, screens_and_quotas, reported_entries, moves_judged, move_entries, groups_and_lists, screens_gone, screen_words, many_patterns, folded_patterns};
 ghost use Rattle.fsrm_model.specs.worked.WorkedTemplates.{auto_apply, template_update, derived_quotas, matching, matching_again, runs_forgotten, update_acts, templates_gone, auto_folders, auto_moves, auto_spelled, auto_and_quotas, auto_scans, templates_and_lists, crowded_templates, template_words};
 ghost use Rattle.fsrm_model.specs.worked.WorkedRows.{nothing_done, first_files, clock, moves, bad_lines, words_apart, root_and_places, few_nodes, few_name_bytes, folded_names, rounded_usage, large_clusters, small_clusters, nested_quotas, up_to_the_limit, above_the_limit, move_below_a_quota, scan_in_steps, visited_again, out_and_back, out_for_good, scan_refusals, scans_in_turn, quota_options, quota_limits, quota_peaks, quotas_gone};
@@ -170,6 +170,7 @@ pub fn worked_templates()
 pub fn worked_replays()
     ensures unfinished { unfinished_scan }
     ensures finished { finished_scan }
+    ensures action { finished_action }
     ensures refused { refused_write }
 {}
 

@@ -21,6 +21,12 @@ finished_scan =
     text default_capacity (recovered_after (codes "100 mkdir D:\\h 1\n100 create D:\\h\\a 5000 1\n100 dirquota quota add /Path:D:\\h /Limit:4kb\n101 step 9\n102 dirquota quota scan /Path:D:\\h\n103 step 9\n")) (codes "300 dirquota quota list\n")
     ≡ codes "1 ok\n  4096 hard complete 8192 8192 1970-01-01 00:01:41 D:\\h\n"
 
+-- an action that ran as a scan was finished ran at the step's moment, and doesn't run again, since its threshold is reached
+abbrev pub finished_action : Type 0
+finished_action =
+    text default_capacity (recovered_after (codes "100 mkdir D:\\h 1\n100 create D:\\h\\a 5000 1\n100 dirquota quota add /Path:D:\\h /Limit:10kb /Add-Notification:75,e,0,near\n102 create D:\\b 1 1\n103 step 9\n104 create D:\\c 1 1\n")) (codes "300 dirquota admin log\n300 create D:\\h\\d 0 1\n")
+    ≡ codes "1 ok\n  1970-01-01 00:01:43 quota 1 75 e\n2 ok\n"
+
 -- a write that a quota refuses is kept if an action ran for it, with the run and its moment; the same write again isn't
 abbrev pub refused_write : Type 0
 refused_write =

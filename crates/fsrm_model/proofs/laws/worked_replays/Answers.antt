@@ -19,6 +19,10 @@ pub returns-clause-finished : goal.returns-clause-finished
 unfolding replied line_entries read_line simple_folding simple_folding_rows value_in chars digits is_utf8 utf8_valid_len lib.Utf8.encode
 returns-clause-finished c = refl
 
+pub returns-clause-action : goal.returns-clause-action
+unfolding replied line_entries read_line simple_folding simple_folding_rows value_in chars digits is_utf8 utf8_valid_len lib.Utf8.encode
+returns-clause-action c = refl
+
 pub returns-clause-refused : goal.returns-clause-refused
 unfolding replied line_entries read_line simple_folding simple_folding_rows value_in chars digits is_utf8 utf8_valid_len lib.Utf8.encode
 returns-clause-refused c = refl
