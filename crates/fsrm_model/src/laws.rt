@@ -10,10 +10,11 @@ ghost use Rattle.fsrm_model.specs.declared.command.Deed.{Deed};
 ghost use Rattle.fsrm_model.specs.declared.command.AutoquotaDeed.TheVariants.{Add as AutoquotaAdd};
 ghost use Rattle.fsrm_model.specs.declared.command.Deed.TheVariants.{File, Step, Template, Autoquota};
 ghost use Rattle.fsrm_model.specs.declared.command.Entry.{Entry};
+ghost use Rattle.fsrm_model.specs.declared.command.Entry.TheVariants.{Finish};
 ghost use Rattle.fsrm_model.specs.declared.command.FileOp.{FileOp};
 ghost use Rattle.fsrm_model.specs.declared.command.FileOp.TheVariants.{Mkdir, Move};
 ghost use Rattle.fsrm_model.specs.declared.command.NewAutoquota.{NewAutoquota};
-ghost use Rattle.fsrm_model.specs.declared.command.Outcome.TheVariants.{Done, Refused, Sum};
+ghost use Rattle.fsrm_model.specs.declared.command.Outcome.TheVariants.{Done, Refused, Scanned, Sum};
 ghost use Rattle.fsrm_model.specs.declared.command.Refusal.{Refusal};
 ghost use Rattle.fsrm_model.specs.declared.command.Refusal.TheVariants.{ScreenBlocked, QuotaExceeded};
 ghost use Rattle.fsrm_model.specs.declared.command.Subject.{Subject};
@@ -381,6 +382,8 @@ pub fn journal()
     ensures entry { (K : Capacity) (R Q : Rows) (c : Command) → IsValid K R → lasting Q ≡ lasting R → (step K R c).lasting ≡ true → lasting (after_entry K Q (journal_entry R c)) ≡ lasting (step K R c).rows }
     ensures valid_entry { (R : Rows) (c : Command) → is_command c ≡ true → is_valid_entry (journal_entry R c) ≡ true }
     ensures valid_rows { (K : Capacity) (R : Rows) (entry : Entry) → IsValid K R → is_valid_entry entry ≡ true → IsValid K (after_entry K R entry) }
+    // The entry of a step names the folder that its answer names.
+    ensures named { (K : Capacity) (R : Rows) (moment n folder visited : ℕ) (used : Option ℕ) → (step K R (record { moment = moment; deed = Step n })).outcome ≡ Scanned folder visited used → journal_entry R (record { moment = moment; deed = Step n }) ≡ Finish moment folder }
     // Rows are journaled when a store writes what is kept of them, when it has recovered them, and after each command
     // and each script's lines, by the entries of these.
     ensures new { (K : Capacity) (R : Rows) → IsValid K R → IsJournaled K (lasting R) [] R }

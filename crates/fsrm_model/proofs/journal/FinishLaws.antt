@@ -8,7 +8,8 @@ use Rattle.fsrm_base.specs.Keyed.{row_of, has_row}
 use Rattle.fsrm_base.specs.Numbers.{is_in}
 use Rattle.fsrm_base.proofs.Look.{found_has, has_found}
 use Rattle.fsrm_model.specs.declared.command.Deed.TheVariants.{Step}
-use Rattle.fsrm_model.specs.declared.command.Outcome.TheVariants.{Done}
+use Rattle.fsrm_model.specs.declared.command.Outcome.{Outcome}
+use Rattle.fsrm_model.specs.declared.command.Outcome.TheVariants.{Done, Scanned}
 use Rattle.fsrm_model.specs.declared.command.Refusal.TheVariants.{ClockBack, NothingToScan}
 use Rattle.fsrm_model.specs.declared.row.Capacity.{Capacity}
 use Rattle.fsrm_model.specs.declared.row.QuotaRow.{QuotaRow}
@@ -184,3 +185,27 @@ step_finishes K R moment n s l =
           (finish_alike K (record R { unvisited = visits n R.nodes R.unvisited }) moment (unwrap_or (head R.queue) 0)).same
           ∙ ap lasting (sym (step_is_finish K R moment n s l).rows);
     }
+
+-- the answer of a step names the folder at the head of the queue, whether it finishes the scan or not
+scanned_in : Outcome → ℕ
+scanned_in (Scanned folder visited used) = folder
+scanned_in other = 0
+
+pub step_names : (K : Capacity) (R : Rows) (moment n folder visited : ℕ) (used : Option ℕ) → (step K R (record { moment = moment; deed = Step n })).outcome ≡ Scanned folder visited used → unwrap_or (head R.queue) 0 ≡ folder
+unfolding scanned_in
+step_names K R moment n folder visited used h = by (nat_lt moment R.last_moment) (length R.queue == 0) h
+  where
+    w : Work
+    w = step_work K R n
+
+    after : Rows
+    after = followed R w.effect
+
+    at : (lasts : Bool) → (if lasts then lasted K R (screened after moment None) moment w.outcome else unlasting after w.outcome).outcome ≡ Scanned folder visited used → unwrap_or (head R.queue) 0 ≡ folder
+    at true h = ap scanned_in h
+    at false h = ap scanned_in h
+
+    by : (late none : Bool) → (decided K R moment w (first ((ClockBack when late) ∷ (NothingToScan when none) ∷ []))).outcome ≡ Scanned folder visited used → unwrap_or (head R.queue) 0 ≡ folder
+    by true none h = absurd (cc h)
+    by false true h = absurd (cc h)
+    by false false h = at w.lasts h

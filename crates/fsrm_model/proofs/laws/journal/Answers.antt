@@ -1,7 +1,9 @@
+use Rattle.std.proofs.Common.{ap}
 use Rattle.fsrm_model.specs.declared.command.Deed.TheVariants.{Step}
+use Rattle.fsrm_model.specs.declared.command.Entry.TheVariants.{Finish}
 use Rattle.fsrm_model.proofs.commands.EachCommand.{lasts_is, lasting_kind, lasting_kept}
 use Rattle.fsrm_model.proofs.journal.EntryLaws.{same_steps, same_finish, same_finish_acts, step_acts, entry_kept, entry_valid, journal_entry_valid, journaled_new, journaled_again, journaled_next, journaled_lines, lines_front}
-use Rattle.fsrm_model.proofs.journal.FinishLaws.{lasting_valid, finish_valid, step_is_finish}
+use Rattle.fsrm_model.proofs.journal.FinishLaws.{lasting_valid, finish_valid, step_is_finish, step_names}
 use Rattle.fsrm_model.proofs.journal.KeptEnds.{lasting_twice}
 use Rattle.fsrm_model.proofs.journal.OldLaws.{old_replayed_same}
 use Rattle.fsrm_model.proofs.journal.WholeLaws.{kept_whole, whole_kept}
@@ -51,6 +53,9 @@ returns-clause-finish_acts c = step_acts
 
 pub returns-clause-entry : goal.returns-clause-entry
 returns-clause-entry c = entry_kept
+
+pub returns-clause-named : goal.returns-clause-named
+returns-clause-named c = λ K R moment n folder visited used h. ap (Finish moment) (step_names K R moment n folder visited used h)
 
 pub returns-clause-valid_entry : goal.returns-clause-valid_entry
 returns-clause-valid_entry c = journal_entry_valid
