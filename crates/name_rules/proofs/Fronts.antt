@@ -1,5 +1,5 @@
 -- The order of two names that begin alike with characters of ASCII.
-use Rattle.std.proofs.Common.{◌≡◌, ℕ, zero, suc, ◌<◌, ◌≤◌, ◌==◌, true, false, List, [], ◌∷◌, ◌++◌, length, take, drop, drop-cons, length-drop, get_or, Less, Equal, Greater, ⊎_elim, ap, sym, subst, refl, ◌∙◌, arith}
+use Rattle.std.proofs.Common.{◌≡◌, ℕ, zero, suc, ◌+◌, ◌<◌, ◌≤◌, ◌==◌, true, false, List, [], ◌∷◌, ◌++◌, length, take, drop, drop-cons, length-drop, get_or, Less, Equal, Greater, ⊎_elim, ap, sym, subst, refl, ◌∙◌, arith}
 use Rattle.std.specs.Ordering.{nat_cmp, ordering_then}
 use Rattle.std.specs.Char.{is_ascii, to_ascii_lowercase, encode_utf8}
 use Rattle.std.specs.Str.{IsUtf8, IsAscii, IsCharBoundary, chars, encode_utf8_all}
@@ -63,6 +63,19 @@ module _ (x y : ℕ) where
 
   other_lower : are_same_ascii x y ≡ false → x < 128 → y < 128 → to_ascii_lowercase x ≡ to_ascii_lowercase y → ⊥
   other_lower apart low low' same = absurd (false≢true (sym apart ∙ rw (lt-ltb x 128 low, lt-ltb y 128 low', eq-eqb _ _ same) refl))
+
+-- ---- a front with one byte more
+pub one_more : (a b : List ℕ) (count : ℕ) → HasSameFront a b count → count < length a → count < length b → are_same_ascii (get_or a count 0) (get_or b count 0) ≡ true → HasSameFront a b (count + 1)
+one_more a b count front more more' same = record {
+  within = omega (arith, more);
+  within_other = omega (arith, more');
+  alike = λ k below. ⊎_elim
+      (λ before. front.alike k before)
+      (λ from.
+      let last : count ≡ k = omega (arith, below, from) in
+      subst (λ i. are_same_ascii (get_or a i 0) (get_or b i 0) ≡ true) last same)
+      (cases_lt k count);
+}
 
 -- ---- past a front that is alike
 pub name_cmp_past_front : (a b : List ℕ) (count : ℕ) → HasSameFront a b count → name_cmp a b ≡ name_cmp (drop count a) (drop count b)

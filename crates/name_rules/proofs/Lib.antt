@@ -6,3 +6,4 @@ pub mod Names
 pub mod Taken
 pub mod NameBytes
 pub mod PrefixLaws
+pub mod Words

@@ -3,13 +3,17 @@
 
 ghost use Rattle.std.specs.Ordering.{nat_cmp};
 ghost use Rattle.std.specs.Char.{is_ascii};
-ghost use Rattle.std.specs.Prelude.{◌≡◌, ◌<◌, ◌&&◌, false, length, slice_index};
+ghost use Rattle.std.specs.Prelude.{◌≡◌, ◌<◌, ◌&&◌, true, false, length, slice_index};
+ghost use Rattle.std.specs.Str.{IsAscii};
 ghost use Rattle.ucd_case.specs.CaseFolding.{simple_fold};
 ghost use Rattle.fsrm_model.specs.values.Name.{same_name, name_cmp};
 ghost use Rattle.name_rules.specs.Fronts.{HasSameFront, are_same_ascii};
 
 use std::cmp::Ordering;
 use unicode::case::simple_fold;
+
+// The bit of each byte of a word that no character of ASCII has.
+const HIGH_BITS: u64 = 0x8080_8080_8080_8080;
 
 /// Whether two names are one after folding.
 #[tactic(auto, using(crate::proofs::Folds::is_eq_name_cmp, crate::proofs::Folds::same_name_itself))]
@@ -44,11 +48,34 @@ fn same_front(a: &[u8], b: &[u8]) -> usize
     ensures apart { result < length a.now → result < length b.now →
         are_same_ascii (slice_index a.now result) (slice_index b.now result) ≡ false }
 {
-    let mut front = 0;
+    let mut front = same_words(a, b);
     while front < a.len() && front < b.len() && are_same_ascii(a[front], b[front]) {
         front += 1;
     }
     front
+}
+
+// How many bytes at the front are the same in both and of ASCII, by words of eight.
+#[inline]
+fn same_words(a: &[u8], b: &[u8]) -> usize
+    ensures { HasSameFront a.now b.now result }
+{
+    let (ours, _) = a.as_chunks::<8>();
+    let (theirs, _) = b.as_chunks::<8>();
+    let mut words = 0;
+    while words < ours.len() && words < theirs.len() && is_same_word(&ours[words], &theirs[words]) {
+        words += 1;
+    }
+    8 * words
+}
+
+#[inline]
+fn is_same_word(one: &[u8; 8], other: &[u8; 8]) -> bool
+    ensures same { result ≡ true → one.now ≡ other.now }
+    ensures ascii { result ≡ true → IsAscii one.now }
+{
+    let word = u64::from_le_bytes(*one);
+    word == u64::from_le_bytes(*other) && word & HIGH_BITS == 0
 }
 
 #[inline]
@@ -69,6 +96,7 @@ fn are_same_ascii(one: u8, other: u8) -> bool
     are_ascii(one, other) && one.eq_ignore_ascii_case(&other)
 }
 
+#[inline(never)]
 fn cmp_characters(a: &str, b: &str) -> Ordering
     ensures { result ≡ name_cmp a.now b.now }
 {
