@@ -1,9 +1,9 @@
 -- The order of two names that begin alike with characters of ASCII.
-use Rattle.std.proofs.Common.{◌≡◌, ℕ, zero, suc, ◌+◌, ◌<◌, ◌≤◌, ◌==◌, true, false, List, [], ◌∷◌, ◌++◌, length, take, drop, drop-cons, length-drop, get_or, Less, Equal, Greater, ⊎_elim, ap, sym, subst, refl, ◌∙◌, arith}
+use Rattle.std.proofs.Common.{◌≡◌, ℕ, zero, suc, ◌+◌, ◌<◌, ◌≤◌, ◌==◌, ◌&&◌, true, List, [], ◌∷◌, ◌++◌, length, take, drop, drop-cons, length-drop, get_or, Less, Equal, Greater, ⊎_elim, ap, sym, subst, refl, ◌∙◌, arith}
 use Rattle.std.specs.Ordering.{nat_cmp, ordering_then}
 use Rattle.std.specs.Char.{is_ascii, to_ascii_lowercase, encode_utf8}
 use Rattle.std.specs.Str.{IsUtf8, IsAscii, IsCharBoundary, chars, encode_utf8_all}
-use Rattle.std.proofs.lemmas.Bool.{cases_lt, false≢true, ltb-true, lt-ltb, eq-eqb, eqb-true}
+use Rattle.std.proofs.lemmas.Bool.{cases_lt, ltb-true, eq-eqb, eqb-true}
 use Rattle.std.proofs.lemmas.Bool.Decides.{nat_tests}
 use Rattle.std.proofs.lemmas.List.{get_or-take, get_or_past, length-take}
 use Rattle.std.proofs.lemmas.Str.{chars-append, chars-IsAscii, IsUtf8-from_ascii, IsUtf8-drop, IsCharBoundary-from_take}
@@ -61,8 +61,8 @@ module _ (x y : ℕ) where
   same_lower : are_same_ascii x y ≡ true → to_ascii_lowercase x ≡ to_ascii_lowercase y
   same_lower same = same_from_test x y (both _ _ same).1
 
-  other_lower : are_same_ascii x y ≡ false → x < 128 → y < 128 → to_ascii_lowercase x ≡ to_ascii_lowercase y → ⊥
-  other_lower apart low low' same = absurd (false≢true (sym apart ∙ rw (lt-ltb x 128 low, lt-ltb y 128 low', eq-eqb _ _ same) refl))
+  pub alike_by_order : (is_ascii x && is_ascii y) ≡ true → nat_cmp (to_ascii_lowercase x) (to_ascii_lowercase y) ≡ Equal → are_same_ascii x y ≡ true
+  alike_by_order ascii equal = rw (ascii, eq-eqb _ _ (same_from_nat_cmp _ _ equal)) refl
 
 -- ---- a front with one byte more
 pub one_more : (a b : List ℕ) (count : ℕ) → HasSameFront a b count → count < length a → count < length b → are_same_ascii (get_or a count 0) (get_or b count 0) ≡ true → HasSameFront a b (count + 1)
@@ -130,13 +130,28 @@ module _ (a b : List ℕ) (count : ℕ) (front : HasSameFront a b count) where
       let first = first_character (drop count a) rest (omega (arith, length-drop count a)) in
       past ∙ longer (drop count a) first.1.0 first.0 rest first.1.1 (drop count b) (omega (arith, length-drop count b))
 
+  -- one of them ends there, or both
+  pub they_end : IsUtf8 a → IsUtf8 b → (count < length a → length b ≤ count) → name_cmp a b ≡ nat_cmp (length a) (length b)
+  they_end text other end =
+      ⊎_elim
+      (λ some. let none = end some in
+      let longer : nat_cmp (length a) (length b) ≡ Greater = grind (arith, nat_tests) in
+      other_ends text some none ∙ sym longer)
+      (λ none. ⊎_elim
+      (λ some. let shorter : nat_cmp (length a) (length b) ≡ Less = grind (arith, nat_tests) in
+      one_ends other none some ∙ sym shorter)
+      (λ none'. let same : length a ≡ length b = omega (arith, front.within, front.within_other, none, none') in
+      both_end none none' ∙ sym (nat_cmp_same _ _ same))
+      (cases_lt count (length b)))
+      (cases_lt count (length a))
+
   -- both go on with characters of ASCII, which aren't alike
-  pub they_part : (x y : ℕ) → count < length a → count < length b → x ≡ get_or a count 0 → y ≡ get_or b count 0 → is_ascii x ≡ true → is_ascii y ≡ true → are_same_ascii (get_or a count 0) (get_or b count 0) ≡ false → name_cmp a b ≡ nat_cmp (to_ascii_lowercase x) (to_ascii_lowercase y)
-  they_part x y some some' is is' low low' apart =
-      let differ : are_same_ascii x y ≡ false = ap (λ z. are_same_ascii z y) is ∙ ap (are_same_ascii (get_or a count 0)) is' ∙ apart in
-      let heads : x ∷ drop (suc count) a ≡ drop count a = ap (λ z. z ∷ drop (suc count) a) is ∙ sym (drop-cons a count 0 some) in
-      let heads' : y ∷ drop (suc count) b ≡ drop count b = ap (λ z. z ∷ drop (suc count) b) is' ∙ sym (drop-cons b count 0 some') in
+  pub they_part : count < length a → count < length b → let x = get_or a count 0 in let y = get_or b count 0 in (is_ascii x && is_ascii y) ≡ true → (nat_cmp (to_ascii_lowercase x) (to_ascii_lowercase y) ≡ Equal → ⊥) → name_cmp a b ≡ nat_cmp (to_ascii_lowercase x) (to_ascii_lowercase y)
+  they_part some some' ascii apart =
+      let x = get_or a count 0 in
+      let y = get_or b count 0 in
+      let low = both (is_ascii x) (is_ascii y) ascii in
       past
-      ∙ ap (λ text. name_cmp text (drop count b)) (sym heads)
-      ∙ ap (name_cmp (x ∷ drop (suc count) a)) (sym heads')
-      ∙ other_ascii_heads x y (drop (suc count) a) (drop (suc count) b) (low_from_test x low) (low_from_test y low') (other_lower x y differ (low_from_test x low) (low_from_test y low'))
+      ∙ ap (λ text. name_cmp text (drop count b)) (drop-cons a count 0 some)
+      ∙ ap (name_cmp (x ∷ drop (suc count) a)) (drop-cons b count 0 some')
+      ∙ other_ascii_heads x y (drop (suc count) a) (drop (suc count) b) (low_from_test x low.0) (low_from_test y low.1) (λ same. apart (nat_cmp_same _ _ same))

@@ -2,12 +2,12 @@
 //! 3.13; CaseFolding.txt, statuses C and S). So a sharp s is no `ss`, and a final sigma is a sigma.
 
 ghost use Rattle.std.specs.Ordering.{nat_cmp};
-ghost use Rattle.std.specs.Char.{is_ascii};
-ghost use Rattle.std.specs.Prelude.{◌≡◌, ◌<◌, ◌&&◌, true, false, length, slice_index};
+ghost use Rattle.std.specs.Char.{is_ascii, to_ascii_lowercase};
+ghost use Rattle.std.specs.Prelude.{◌≡◌, ◌&&◌, true};
 ghost use Rattle.std.specs.Str.{IsAscii};
 ghost use Rattle.ucd_case.specs.CaseFolding.{simple_fold};
 ghost use Rattle.fsrm_model.specs.values.Name.{same_name, name_cmp};
-ghost use Rattle.name_rules.specs.Fronts.{HasSameFront, are_same_ascii};
+ghost use Rattle.name_rules.specs.Fronts.{HasSameFront};
 
 use std::cmp::Ordering;
 use unicode::case::simple_fold;
@@ -24,35 +24,26 @@ pub fn same_name(a: &str, b: &str) -> bool
 }
 
 /// The order of two names, by the numbers of their folded characters.
+#[inline(never)]
 pub fn fold_cmp(a: &str, b: &str) -> Ordering
     ensures { result ≡ name_cmp a.now b.now }
 {
+    // Folding lowers the letters of ASCII and leaves its other characters, so bytes are compared as long as both names
+    // have characters of ASCII. If either has another, the rest is compared by characters: some fold to a letter of
+    // ASCII, as the Kelvin sign does to k.
     let (ours, theirs) = (a.as_bytes(), b.as_bytes());
-    let front = same_front(ours, theirs);
-    match (ours.get(front), theirs.get(front)) {
-        (None, None) => Ordering::Equal,
-        (None, Some(_)) => Ordering::Less,
-        (Some(_), None) => Ordering::Greater,
-        (Some(one), Some(other)) if are_ascii(*one, *other) => {
-            one.to_ascii_lowercase().cmp(&other.to_ascii_lowercase())
+    let mut front = same_words(ours, theirs);
+    while front < ours.len() && front < theirs.len() {
+        let (one, other) = (ours[front], theirs[front]);
+        if !are_ascii(one, other) {
+            return cmp_characters(&a[front..], &b[front..]);
         }
-        _ => cmp_characters(&a[front..], &b[front..]),
+        match cmp_lower(one, other) {
+            Ordering::Equal => front += 1,
+            order => return order,
+        }
     }
-}
-
-// Folding lowers the letters of ASCII and leaves its other characters, so bytes are compared as long as both names have
-// characters of ASCII. If either has another, the rest is compared by characters: some fold to a letter of ASCII, as
-// the Kelvin sign does to k.
-fn same_front(a: &[u8], b: &[u8]) -> usize
-    ensures front { HasSameFront a.now b.now result }
-    ensures apart { result < length a.now → result < length b.now →
-        are_same_ascii (slice_index a.now result) (slice_index b.now result) ≡ false }
-{
-    let mut front = same_words(a, b);
-    while front < a.len() && front < b.len() && are_same_ascii(a[front], b[front]) {
-        front += 1;
-    }
-    front
+    ours.len().cmp(&theirs.len())
 }
 
 // How many bytes at the front are the same in both and of ASCII, by words of eight.
@@ -85,15 +76,15 @@ fn are_ascii(one: u8, other: u8) -> bool
     one.is_ascii() && other.is_ascii()
 }
 
-// Most bytes of two such fronts are the same, so that is asked first.
+// The order of two characters of ASCII, folded. Most are the same, so that is asked first.
 #[inline]
-fn are_same_ascii(one: u8, other: u8) -> bool
-    ensures { result ≡ are_same_ascii one other }
+fn cmp_lower(one: u8, other: u8) -> Ordering
+    ensures { result ≡ nat_cmp (to_ascii_lowercase one) (to_ascii_lowercase other) }
 {
     if one == other {
-        return one.is_ascii();
+        return Ordering::Equal;
     }
-    are_ascii(one, other) && one.eq_ignore_ascii_case(&other)
+    one.to_ascii_lowercase().cmp(&other.to_ascii_lowercase())
 }
 
 #[inline(never)]

@@ -1,55 +1,51 @@
-use Rattle.std.proofs.Common.{drop, ap, sym, ◌∙◌}
-use Rattle.std.specs.Ordering.{nat_cmp}
-use Rattle.std.specs.Char.{to_ascii_lowercase}
-use Rattle.fsrm_base.proofs.TestLaws.{both}
+use Rattle.std.proofs.Common.{◌≤◌, ◌<◌, length, drop, get_or, ap, sym, ◌∙◌, arith}
 use Rattle.fsrm_model.specs.values.Name.{name_cmp}
 use Rattle.name_rules.specs.Fronts.{HasSameFront}
-use Rattle.name_rules.proofs.Fronts.{name_cmp_past_front, may_cut, may_cut_other, both_end, one_ends, other_ends, they_part}
+use Rattle.name_rules.proofs.Fronts.{name_cmp_past_front, may_cut, may_cut_other, one_more, alike_by_order, they_end, they_part}
 use Rattle.name_rules.proofs.order.fold_cmp.Goals as goal
+use Rattle.name_rules.proofs.order.fold_cmp.Goals.{then-loop-front-test+else-front-theirs, else-loop-front-test}
 
 pub range_from-requires : goal.range_from-requires
 range_from-requires c = λ _.
-    may_cut c.args.a.now c.args.b.now _ (rw (c.as_bytes-ours.ensures.value, c.as_bytes-theirs.ensures.value) at c.same_front-front.ensures.front) c.utf8.a
+    may_cut c.args.a.now c.args.b.now _ (rw (c.as_bytes-ours.ensures.value, c.as_bytes-theirs.ensures.value) at c.loop-front.invariant) c.utf8.a
 
-pub range_from-requires-in_default : goal.range_from-requires-in_default
-range_from-requires-in_default c = λ _.
-    may_cut_other c.args.a.now c.args.b.now _ (rw (c.as_bytes-ours.ensures.value, c.as_bytes-theirs.ensures.value) at c.same_front-front.ensures.front) c.utf8.b
+pub range_from-requires-then-not-are_ascii : goal.range_from-requires-then-not-are_ascii
+range_from-requires-then-not-are_ascii c = λ _.
+    may_cut_other c.args.a.now c.args.b.now _ (rw (c.as_bytes-ours.ensures.value, c.as_bytes-theirs.ensures.value) at c.loop-front.invariant) c.utf8.b
 
-pub returns-in-None-None : goal.returns-in-None-None
-returns-in-None-None c =
-    sym (both_end c.as_bytes-ours.result.now c.as_bytes-theirs.result.now _ c.same_front-front.ensures.front c.in-None-None.ensures.lookup.3 c.in-None-None.ensures'.lookup.3)
-    ∙ ap (λ text. name_cmp text c.as_bytes-theirs.result.now) c.as_bytes-ours.ensures.value
-    ∙ ap (name_cmp c.args.a.now) c.as_bytes-theirs.ensures.value
+pub returns-then-not-are_ascii : goal.returns-then-not-are_ascii
+returns-then-not-are_ascii c =
+    let count = c.loop-front.front in
+    let front : HasSameFront c.args.a.now c.args.b.now count = rw (c.as_bytes-ours.ensures.value, c.as_bytes-theirs.ensures.value) at c.loop-front.invariant in
+    c.cmp_characters.ensures
+    ∙ ap (λ text. name_cmp text c.range_from-then-not-are_ascii.result.now) c.range_from.ensures.value
+    ∙ ap (name_cmp (drop count c.args.a.now)) c.range_from-then-not-are_ascii.ensures.value
+    ∙ sym (name_cmp_past_front c.args.a.now c.args.b.now count front)
 
-pub returns-in-None-Some : goal.returns-in-None-Some
-returns-in-None-Some c =
-    sym (one_ends c.as_bytes-ours.result.now c.as_bytes-theirs.result.now _ c.same_front-front.ensures.front c.as_bytes-theirs.ensures.utf8 c.in-None-Some.ensures.lookup.3 c.in-None-Some.ensures'.lookup.3.0)
-    ∙ ap (λ text. name_cmp text c.as_bytes-theirs.result.now) c.as_bytes-ours.ensures.value
-    ∙ ap (name_cmp c.args.a.now) c.as_bytes-theirs.ensures.value
-
-pub returns-in-Some-None : goal.returns-in-Some-None
-returns-in-Some-None c =
-    sym (other_ends c.as_bytes-ours.result.now c.as_bytes-theirs.result.now _ c.same_front-front.ensures.front c.as_bytes-ours.ensures.utf8 c.in-Some-None.ensures.lookup.3.0 c.in-Some-None.ensures'.lookup.3)
-    ∙ ap (λ text. name_cmp text c.as_bytes-theirs.result.now) c.as_bytes-ours.ensures.value
-    ∙ ap (name_cmp c.args.a.now) c.as_bytes-theirs.ensures.value
-
-pub returns-in-Some-Some : goal.returns-in-Some-Some
-returns-in-Some-Some c =
-    let there = c.in-Some-Some.ensures.lookup.3 in
-    let there' = c.in-Some-Some.ensures'.lookup.3 in
-    let ascii = both _ _ (sym c.are_ascii.ensures ∙ c.if-are_ascii.true) in
-    c.cmp.ensures
-    ∙ ap (λ x. nat_cmp x c.to_ascii_lowercase-in-Some-Some.result) c.to_ascii_lowercase.ensures.value
-    ∙ ap (nat_cmp (to_ascii_lowercase c.in-Some-Some.one.now)) c.to_ascii_lowercase-in-Some-Some.ensures.value
-    ∙ sym (they_part c.as_bytes-ours.result.now c.as_bytes-theirs.result.now _ c.same_front-front.ensures.front c.in-Some-Some.one.now c.in-Some-Some.other.now there.0 there'.0 (there.1 0) (there'.1 0) ascii.0 ascii.1 (c.same_front-front.ensures.apart there.0 there'.0))
-    ∙ ap (λ text. name_cmp text c.as_bytes-theirs.result.now) c.as_bytes-ours.ensures.value
-    ∙ ap (name_cmp c.args.a.now) c.as_bytes-theirs.ensures.value
+pub loop-front-preserved : goal.loop-front-preserved
+loop-front-preserved c =
+    let ours = c.as_bytes-ours.result.now in
+    let theirs = c.as_bytes-theirs.result.now in
+    let front = c.loop-front.front in
+    one_more ours theirs front c.loop-front.invariant c.loop-front-test.true c.if-front-theirs.true
+    (alike_by_order (get_or ours front 0) (get_or theirs front 0) (sym c.are_ascii.ensures ∙ c.if-not-are_ascii.false) (sym c.cmp_lower.ensures ∙ c.in-Equal.is))
 
 pub returns-in_default : goal.returns-in_default
 returns-in_default c =
-    let count = c.same_front-front.result in
-    let front : HasSameFront c.args.a.now c.args.b.now count = rw (c.as_bytes-ours.ensures.value, c.as_bytes-theirs.ensures.value) at c.same_front-front.ensures.front in
-    c.cmp_characters.ensures
-    ∙ ap (λ text. name_cmp text c.range_from-in_default.result.now) c.range_from.ensures.value
-    ∙ ap (name_cmp (drop count c.args.a.now)) c.range_from-in_default.ensures.value
-    ∙ sym (name_cmp_past_front c.args.a.now c.args.b.now count front)
+    c.cmp_lower.ensures
+    ∙ sym (they_part c.as_bytes-ours.result.now c.as_bytes-theirs.result.now c.loop-front.front c.loop-front.invariant c.loop-front-test.true c.if-front-theirs.true (sym c.are_ascii.ensures ∙ c.if-not-are_ascii.false) (λ equal. c.in_default.not-Equal (c.cmp_lower.ensures ∙ equal)))
+    ∙ ap (λ text. name_cmp text c.as_bytes-theirs.result.now) c.as_bytes-ours.ensures.value
+    ∙ ap (name_cmp c.args.a.now) c.as_bytes-theirs.ensures.value
+
+pub returns : goal.returns
+returns c =
+    let ours = c.as_bytes-ours.result.now in
+    let theirs = c.as_bytes-theirs.result.now in
+    let end : c.loop-front.front < length ours → length theirs ≤ c.loop-front.front = λ more. elim c.loop-front-test.branch [
+      | then-loop-front-test+else-front-theirs w ↦ omega (arith, w.if-front-theirs)
+      | else-loop-front-test w ↦ omega (arith, w.loop-front-test, more)
+    ] in
+    c.cmp.ensures
+    ∙ sym (they_end ours theirs c.loop-front.front c.loop-front.invariant c.as_bytes-ours.ensures.utf8 c.as_bytes-theirs.ensures.utf8 end)
+    ∙ ap (λ text. name_cmp text theirs) c.as_bytes-ours.ensures.value
+    ∙ ap (name_cmp c.args.a.now) c.as_bytes-theirs.ensures.value
