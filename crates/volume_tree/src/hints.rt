@@ -76,7 +76,9 @@ fn name_hash(name: &str) -> u64 {
             for word in words {
                 hash = stir(hash, u64::from_le_bytes(*word));
             }
-            stir(hash, u64::from_le_bytes(*last))
+            // Names mostly differ at their ends, but a product has a bit of a word only from that bit on.
+            let last = u64::from_le_bytes(*last);
+            stir(hash, last ^ last >> 32)
         }
         None => stir(hash, short_word(bytes)),
     }
