@@ -1,0 +1,4 @@
+pub mod HeldLaws
+pub mod IndexLaws
+pub mod PoolLaws
+pub mod TableLaws

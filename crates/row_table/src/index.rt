@@ -1,0 +1,175 @@
+//! Which number has which slot.
+
+ghost use Rattle.std.specs.Prelude.{◌≡◌, ◌<◌, ◌≤◌, max, nat_lt, MatchOption, OnOk, OnErr, [], true, false, length, slice_get, Some};
+ghost use Rattle.std.specs.List.{list_all};
+ghost use Rattle.fsrm_base.specs.Keyed.{has_row, is_ascending, least_free, row_of, with_row, without_row};
+ghost use Rattle.fsrm_base.specs.Places.{IsAt};
+ghost use Rattle.row_table.specs.Indexed.{AreIndexed, noted, number_of, slot_in};
+
+use crate::notes::{cover, note_of, write};
+use fsrm_base::NoMemory;
+use fsrm_base::places::{Key, free_number, gap, search};
+use std::alloc::Global;
+use std::marker::Model;
+
+// A number below this one has a note, so long as there is memory for it, and no volume has more nodes. The notes never
+// take more than 2 MB.
+const NOTED: u32 = 1_048_576;
+
+/// The slot of a number.
+#[derive(Clone, Copy)]
+pub struct Entry {
+    pub number: u32,
+    pub slot: u16,
+}
+
+// Entries go by their numbers.
+struct ByNumber;
+
+impl Key for ByNumber {
+    ghost use Rattle.row_table.specs.Indexed.{number_of};
+
+    type Row = Entry;
+
+    ghost key = { number_of };
+
+    fn number(row: &Entry) -> u32 {
+        row.number
+    }
+}
+
+// The note that a number has by its entry, which is found by halves.
+fn searched(order: &[Entry], number: u32) -> u16
+    requires ascending { is_ascending number_of order.now ≡ true }
+    requires small { list_all (λ entry. nat_lt entry.slot 65535) order.now ≡ true }
+    ensures { result ≡ noted (row_of number_of number order.now) }
+{
+    match search::<ByNumber>(order, number) {
+        Ok(place) => order[place].slot + 1,
+        Err(_) => 0,
+    }
+}
+
+/// Numbers, each with its slot. Contracts see them as entries that ascend by number, and for how many there is memory.
+#[derive(Drop)]
+pub struct Index {
+    order: Vec<Entry>,
+    notes: Vec<u16>,
+    // The numbers from here on have no notes.
+    bound: u32,
+    room: u32,
+}
+
+impl Model for Index {
+    ghost use Rattle.std.specs.Vec.{vec_capacity};
+    ghost use Rattle.row_table.specs.Indexed.{Indexed, IsIndex};
+
+    ghost Value = { Indexed };
+
+    ghost view = { λ i. record { entries = i.order.items; room = i.room } };
+
+    ghost invariant = { λ i. IsIndex (record { entries = i.order.items; room = i.room }) i.notes.items i.bound (vec_capacity i.order) };
+}
+
+impl Index {
+    /// An index without numbers. It takes no memory.
+    pub fn new(alloc: Global) -> Index
+        ensures { result ≡ record { entries = []; room = 0 } }
+    {
+        Index {
+            order: Vec::new(alloc),
+            notes: Vec::new(alloc),
+            bound: NOTED,
+            room: 0,
+        }
+    }
+
+    /// Takes memory for so many entries. It fails only if there was none for as many, and then nothing has changed.
+    pub fn reserve(&mut self, room: u32) -> Result<(), NoMemory>
+        requires { room < 65536 }
+        ensures ok { OnOk result (self.new ≡ record self.old { room = max self.old.room room }) }
+        ensures err { OnErr result (self.new ≡ self.old) }
+        ensures full { OnErr result (self.old.room < room) }
+    {
+        let more = (room as usize).saturating_sub(self.order.len());
+        self.order.reserve(more)?;
+        self.room = self.room.max(room);
+        Ok(())
+    }
+
+    /// The slot of a number.
+    pub fn slot(&self, number: u32) -> Option<u16>
+        ensures { result ≡ slot_in self.now.entries number }
+    {
+        self.note(number).checked_sub(1)
+    }
+
+    // What is noted of a number.
+    fn note(&self, number: u32) -> u16
+        ensures { result ≡ noted (row_of number_of number self.now.entries) }
+    {
+        if number < self.bound {
+            return note_of(&self.notes, number);
+        }
+        searched(&self.order, number)
+    }
+
+    /// The place of a number, from 0, by halves.
+    pub fn place(&self, number: u32) -> Option<u32>
+        ensures { MatchOption result (has_row number_of number self.now.entries ≡ false) (IsAt number_of number self.now.entries) }
+    {
+        match search::<ByNumber>(&self.order, number) {
+            Ok(place) => Some(place as u32),
+            Err(_) => None,
+        }
+    }
+
+    /// Puts in a number that isn't there. There is memory for its entry; if there is none for its note, it is found by
+    /// halves.
+    pub fn insert(&mut self, entry: Entry)
+        requires free { has_row number_of entry.number self.old.entries ≡ false }
+        requires room { length self.old.entries < self.old.room }
+        requires small { entry.slot < 65535 }
+        ensures { self.new ≡ record self.old { entries = with_row number_of entry self.old.entries } }
+    {
+        self.bound = cover(&mut self.notes, entry.number, self.bound);
+        let place = gap::<ByNumber>(&self.order, entry.number);
+        self.order.insert(place, entry).unwrap();
+        write(&mut self.notes, entry.number, entry.slot + 1);
+    }
+
+    /// Takes a number out that is there, and answers its slot.
+    pub fn remove(&mut self, number: u32) -> u16
+        requires { has_row number_of number self.old.entries ≡ true }
+        ensures rest { self.new ≡ record self.old { entries = without_row number_of number self.old.entries } }
+        ensures slot { slot_in self.old.entries number ≡ Some result }
+    {
+        let place = search::<ByNumber>(&self.order, number).unwrap();
+        let entry = self.order.remove(place);
+        write(&mut self.notes, number, 0);
+        entry.slot
+    }
+
+    /// The entry at a place, from 0, in the order of the numbers.
+    pub fn at(&self, place: u32) -> Entry
+        requires { place < length self.now.entries }
+        ensures { slice_get self.now.entries place ≡ Some result }
+    {
+        self.order[place as usize]
+    }
+
+    /// How many numbers there are. `kept` says how they are held.
+    pub fn len(&self) -> u32
+        ensures count { result ≡ length self.now.entries }
+        ensures kept { AreIndexed self.now }
+    {
+        self.order.len() as u32
+    }
+
+    /// The least number that isn't there.
+    pub fn free_number(&self) -> u32
+        ensures { result ≡ least_free number_of self.now.entries }
+    {
+        free_number::<ByNumber>(&self.order)
+    }
+}

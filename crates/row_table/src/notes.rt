@@ -1,0 +1,42 @@
+//! Notes of numbers: 0 for one that isn't there, else one more than its slot.
+
+ghost use Rattle.std.specs.Prelude.{◌≡◌, ◌≤◌, ◌<◌, length, slice_set, slice_index};
+ghost use Rattle.row_table.specs.Indexed.{AreGrown};
+
+/// The note of a number, 0 past the last one.
+pub(crate) fn note_of(notes: &[u16], number: u32) -> u16
+    ensures { result ≡ slice_index notes.now number }
+{
+    if (number as usize) < notes.len() {
+        return notes[number as usize];
+    }
+    0
+}
+
+/// Has the notes reach a number, if it is below the bound; 0 stands in each that is new. If there is no memory for
+/// that, the bound is lowered to the numbers that have notes. Answers the bound.
+pub(crate) fn cover(notes: &mut Vec<u16>, number: u32, bound: u32) -> u32
+    requires { length notes.old.items ≤ bound }
+    ensures grown { AreGrown notes.old.items notes.new.items }
+    ensures reached { number < result → number < length notes.new.items }
+    ensures within { length notes.new.items ≤ result }
+    ensures most { result ≤ bound }
+{
+    let reach = number as usize + 1;
+    if bound <= number || reach <= notes.len() {
+        return bound;
+    }
+    match notes.resize(reach, 0) {
+        Ok(()) => bound,
+        Err(_) => notes.len() as u32,
+    }
+}
+
+/// Writes a number's note, if the notes reach it.
+pub(crate) fn write(notes: &mut Vec<u16>, number: u32, note: u16)
+    ensures { notes.new.items ≡ slice_set notes.old.items number note }
+{
+    if (number as usize) < notes.len() {
+        notes[number as usize] = note;
+    }
+}
