@@ -6,7 +6,7 @@ ghost use Rattle.fsrm_base.specs.Keyed.{has_row, is_ascending, least_free, row_o
 ghost use Rattle.fsrm_base.specs.Places.{IsAt};
 ghost use Rattle.row_table.specs.Indexed.{AreIndexed, noted, number_of, slot_in};
 
-use crate::notes::{cover, note_of, write};
+use crate::notes::{cover, write};
 use fsrm_base::NoMemory;
 use fsrm_base::places::{Key, free_number, gap, search};
 use std::alloc::Global;
@@ -108,8 +108,11 @@ impl Index {
     fn note(&self, number: u32) -> u16
         ensures { result ≡ noted (row_of number_of number self.now.entries) }
     {
+        if (number as usize) < self.notes.len() {
+            return self.notes[number as usize];
+        }
         if number < self.bound {
-            return note_of(&self.notes, number);
+            return 0;
         }
         searched(&self.order, number)
     }

@@ -1,17 +1,7 @@
 //! Notes of numbers: 0 for one that isn't there, else one more than its slot.
 
-ghost use Rattle.std.specs.Prelude.{◌≡◌, ◌≤◌, ◌<◌, length, slice_set, slice_index};
+ghost use Rattle.std.specs.Prelude.{◌≡◌, ◌≤◌, ◌<◌, length, slice_set};
 ghost use Rattle.row_table.specs.Indexed.{AreGrown};
-
-/// The note of a number, 0 past the last one.
-pub(crate) fn note_of(notes: &[u16], number: u32) -> u16
-    ensures { result ≡ slice_index notes.now number }
-{
-    if (number as usize) < notes.len() {
-        return notes[number as usize];
-    }
-    0
-}
 
 /// Has the notes reach a number, if it is below the bound; 0 stands in each that is new. If there is no memory for
 /// that, the bound is lowered to the numbers that have notes. Answers the bound.
