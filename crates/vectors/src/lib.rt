@@ -41,6 +41,8 @@ mod many_files;
 #[cfg(test)]
 mod names;
 #[cfg(test)]
+mod plain_table;
+#[cfg(test)]
 mod plain_tree;
 #[cfg(test)]
 mod quota_templates;
@@ -56,6 +58,8 @@ mod runs;
 mod scans;
 #[cfg(test)]
 mod trees;
+#[cfg(test)]
+mod two_tables;
 #[cfg(test)]
 mod two_trees;
 #[cfg(test)]
