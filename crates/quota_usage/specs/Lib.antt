@@ -1,4 +1,3 @@
 pub mod Counters
 pub mod Charge
-pub mod Kept
 pub mod Climb

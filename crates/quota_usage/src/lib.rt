@@ -7,6 +7,7 @@
 
 mod change;
 mod climb;
+mod counters;
 mod refusal;
 mod usage;
 

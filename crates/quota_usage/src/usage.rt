@@ -1,8 +1,7 @@
 //! The counters of the counting quotas.
 
-ghost use Rattle.std.specs.Prelude.{◌≡◌, ℕ, ◌+◌, ◌*◌, ◌<◌, ◌≤◌, ◌^◌, ◌==◌, IfOk, IfErr, OnOk, MatchOption, [], Some, true, false, length, map};
+ghost use Rattle.std.specs.Prelude.{◌≡◌, ℕ, ◌+◌, ◌*◌, ◌<◌, ◌≤◌, ◌^◌, ◌==◌, IfOk, IfErr, OnOk, [], Some, true, false, length, map};
 ghost use Rattle.fsrm_base.specs.Keyed.{has_row, is_ascending, with_change};
-ghost use Rattle.fsrm_base.specs.Places.{IsAt};
 ghost use Rattle.fsrm_model.specs.values.Limits.{most_quotas};
 ghost use Rattle.fsrm_model.specs.objects.Quota.{folder_of};
 ghost use Rattle.fsrm_model.specs.store.Valid.{IsVolume};
@@ -12,10 +11,11 @@ ghost use Rattle.quota_usage.specs.Counters.{counted, used_in, with_counter, wit
 
 use crate::change::{Change, Counter, Exceeded};
 use crate::climb::charge;
+use crate::counters::{Amendment, Counters};
 use crate::refusal::refusal;
-use fsrm_model::limits::MOST_QUOTAS;
 use fsrm_model::{Ledger, NoMemory, Steps};
-use fsrm_objects::{Objects, PlaceTable};
+use fsrm_objects::Objects;
+use row_table::{Kind, Table};
 use std::alloc::Global;
 use std::marker::Model;
 use volume_tree::Tree;
@@ -24,31 +24,29 @@ use volume_tree::Tree;
 /// a list that ascends by folder.
 #[derive(Drop)]
 pub struct Usage {
-    counters: Vec<Counter>,
-    // Where each folder's counter stands, so that a climb finds it without a search.
-    places: PlaceTable,
+    counters: Table<Counters>,
 }
 
 impl Model for Usage {
-    ghost use Rattle.std.specs.Prelude.{List};
+    ghost use Rattle.std.specs.Prelude.{◌≡◌, List};
+    ghost use Rattle.fsrm_model.specs.values.Limits.{most_quotas};
     ghost use Rattle.quota_usage.specs.declared.change.Counter.{Counter};
-    ghost use Rattle.quota_usage.specs.Kept.{IsKept};
 
     ghost Value = { List Counter };
 
-    ghost view = { λ u. u.counters.items };
+    ghost view = { λ u. u.counters.rows };
 
-    ghost invariant = { λ u. IsKept u.counters u.places };
+    ghost invariant = { λ u. u.counters.room ≡ most_quotas };
 }
 
 impl Usage {
-    /// Room for 4,096 counters, and none of them.
+    /// Room for 4,096 counters, and none of them. Only this call can miss memory.
     pub fn reserve(alloc: Global) -> Result<Usage, NoMemory>
         ensures { IfOk result (λ usage. usage ≡ []) }
     {
-        let counters = Vec::with_capacity(alloc, MOST_QUOTAS)?;
-        let places = PlaceTable::reserve(alloc, MOST_QUOTAS as u16)?;
-        Ok(Usage { counters, places })
+        let mut counters = Table::new(alloc);
+        counters.reserve(Counters::MOST)?;
+        Ok(Usage { counters })
     }
 
     /// Whether there is none.
@@ -58,23 +56,13 @@ impl Usage {
         self.counters.is_empty()
     }
 
-    // The place of a folder's counter.
-    fn place(&self, folder: u32) -> Option<usize>
-        ensures { MatchOption result (has_row counted folder self.now ≡ false) (IsAt counted folder self.now) }
-    {
-        self.places.place(folder)
-    }
-
     /// Begins to count for a folder, which so far uses so many bytes.
     pub fn begin(&mut self, folder: u32, bytes: u64)
         requires room { length self.old < most_quotas }
         requires free { has_row counted folder self.old ≡ false }
         ensures { self.new ≡ with_counter self.old folder bytes }
     {
-        let place = self.places.insert(folder).unwrap();
-        self.counters
-            .insert(place, Counter { folder, bytes })
-            .unwrap();
+        self.counters.insert(Counter { folder, bytes });
     }
 
     /// Counts no longer for a folder.
@@ -82,17 +70,15 @@ impl Usage {
         requires { has_row counted folder self.old ≡ true }
         ensures { self.new ≡ without_counter self.old folder }
     {
-        let place = self.place(folder).unwrap();
-        self.counters.remove(place);
-        self.places.remove(folder);
+        self.counters.remove(folder);
     }
 
     /// How many bytes a folder uses, if it has a counter.
     pub fn used(&self, folder: u32) -> Option<u64>
         ensures { result ≡ used_in self.now folder }
     {
-        let place = self.place(folder)?;
-        Some(self.counters[place].bytes)
+        let counter = self.counters.get(folder)?;
+        Some(counter.bytes)
     }
 
     /// Takes bytes from a folder's counter, as many as it has at most, and then gives it others. If the
@@ -101,10 +87,7 @@ impl Usage {
         requires { (bytes : ℕ) → used_in self.old folder ≡ Some bytes → amended minus plus bytes < 2 ^ 64 }
         ensures { self.new ≡ with_change counted folder (amended_counter minus plus) self.old }
     {
-        if let Some(place) = self.place(folder) {
-            let counter = &mut self.counters[place];
-            counter.bytes = counter.bytes.saturating_sub(minus) + plus;
-        }
+        self.counters.change(folder, &Amendment { minus, plus });
     }
 
     /// Ok if no quota refuses a change, else the refusal by the deepest one that does. A quota refuses
