@@ -1,24 +1,19 @@
 -- Which fault is due.
-use Rattle.std.proofs.Common.{◌≡◌, ℕ, ◌+◌, ◌<◌, ◌≤◌, ◌==◌, ◌||◌, nat_lt, nat_le, Bool, true, false, [], ◌∷◌, length, Some, None, refl}
-use Rattle.fsrm_model.specs.declared.row.ExceptRow.{ExceptRow}
+use Rattle.std.proofs.Common.{◌≡◌, ℕ, ◌+◌, ◌<◌, ◌==◌, ◌||◌, nat_lt, nat_le, Bool, true, false, [], ◌∷◌, length, None, refl}
 use Rattle.fsrm_model.specs.declared.row.QuotaRow.{QuotaRow}
 use Rattle.fsrm_model.specs.declared.row.ScreenRow.{ScreenRow}
 use Rattle.fsrm_base.specs.Causes.{◌when◌, first}
-use Rattle.fsrm_base.specs.Keyed.{has_row, row_of}
-use Rattle.fsrm_model.specs.values.Limits.{most_quotas, most_screens, most_excepts, most_screen_groups}
+use Rattle.fsrm_base.specs.Keyed.{has_row}
+use Rattle.fsrm_model.specs.values.Limits.{most_quotas, most_screens}
 use Rattle.fsrm_model.specs.objects.Quota.{folder_of}
 use Rattle.fsrm_model.specs.objects.Screens.{screen_folder, except_folder}
 use Rattle.fsrm_model.specs.values.Texts.{quota_bytes}
 use Rattle.fsrm_model.specs.objects.Thresholds.{are_too_many}
-use Rattle.fsrm_base.proofs.TestLaws.{gt_is, lt_test, not_lt}
+use Rattle.fsrm_base.proofs.TestLaws.{gt_is}
 use Rattle.fsrm_objects.specs.declared.answer.ObjectFault.TheVariants.{AlreadyExists, InvalidCombination, OutOfRange, TableFull, TextsFull}
-use Rattle.fsrm_objects.specs.Tables.{Tables, except_fault, is_long_screen, other_fault, other_screen_fault, quota_fault, screen_bytes, screen_fault, screen_texts_at, texts_at}
+use Rattle.fsrm_objects.specs.Tables.{Tables, is_long_screen, other_fault, other_screen_fault, quota_fault, screen_bytes, screen_fault, screen_texts_at, texts_at}
 
 -- ---- quotas
--- a folder that has one gets no other
-pub taken_due : (tables : Tables) (row : QuotaRow) (room : ℕ) → has_row folder_of row.folder tables.quotas ≡ true → quota_fault tables row room ≡ Some AlreadyExists
-taken_due tables row room has = rw has refl
-
 -- if none is due, the folder has none, no list is too long, and there is a place for one more row
 pub record Admitted (tables : Tables) (row : QuotaRow) : Type 0 where
   pub free : has_row folder_of row.folder tables.quotas ≡ false
@@ -43,14 +38,6 @@ two_pass true more h = cc
 
 pub short_other : (tables : Tables) (row : QuotaRow) (room : ℕ) → other_fault tables row room ≡ None → are_too_many row.thresholds ≡ false
 short_other tables row room h = two_pass (are_too_many row.thresholds) (nat_lt (room + texts_at tables row.folder) (quota_bytes row)) h
-
--- which is due of one in the place of another
-module _ (tables : Tables) (row old : QuotaRow) (room : ℕ) (found : row_of folder_of row.folder tables.quotas ≡ Some old) (short : are_too_many row.thresholds ≡ false) where
-  pub replaced_due : room + quota_bytes old < quota_bytes row → other_fault tables row room ≡ Some TextsFull
-  replaced_due long = rw (short, found, lt_test (room + quota_bytes old) (quota_bytes row) long) refl
-
-  pub replaced_fits : quota_bytes row ≤ room + quota_bytes old → other_fault tables row room ≡ None
-  replaced_fits fits = rw (short, found, not_lt (room + quota_bytes old) (quota_bytes row) fits) refl
 
 -- ---- screens
 -- if no fault is due, the folder has no screen, no list is too long, and there is a place for one more row
@@ -79,29 +66,3 @@ short_pass true long more h = cc
 
 pub short_screen : (tables : Tables) (row : ScreenRow) (room : ℕ) → other_screen_fault tables row room ≡ None → is_long_screen row ≡ false
 short_screen tables row room h = short_pass (length row.groups == 0) (is_long_screen row) (nat_lt (room + screen_texts_at tables row.folder) (screen_bytes row)) h
-
--- which is due of one in the place of another
-module _ (tables : Tables) (row old : ScreenRow) (room : ℕ) (found : row_of screen_folder row.folder tables.screens ≡ Some old) (filled : (length row.groups == 0) ≡ false) (short : is_long_screen row ≡ false) where
-  pub screen_replaced_due : room + screen_bytes old < screen_bytes row → other_screen_fault tables row room ≡ Some TextsFull
-  screen_replaced_due long = rw (filled, short, found, lt_test (room + screen_bytes old) (screen_bytes row) long) refl
-
-  pub screen_replaced_fits : screen_bytes row ≤ room + screen_bytes old → other_screen_fault tables row room ≡ None
-  screen_replaced_fits fits = rw (filled, short, found, not_lt (room + screen_bytes old) (screen_bytes row) fits) refl
-
--- ---- exceptions
--- if no fault is due, the folder has none, and there is a place for one more row
-pub record ExceptAdmitted (tables : Tables) (row : ExceptRow) : Type 0 where
-  pub free : has_row except_folder row.folder tables.excepts ≡ false
-  pub few : length tables.excepts < most_excepts
-
-all_pass : (taken invalid long full : Bool) → first ((AlreadyExists when taken) ∷ (InvalidCombination when invalid) ∷ (OutOfRange when long) ∷ (TableFull when full) ∷ []) ≡ None → (taken ≡ false) × (full ≡ false)
-all_pass false false false false h = (refl, refl)
-all_pass false false false true h = cc
-all_pass false false true full h = cc
-all_pass false true long full h = cc
-all_pass true invalid long full h = cc
-
-pub except_admitted : (tables : Tables) (row : ExceptRow) → except_fault tables row ≡ None → ExceptAdmitted tables row
-except_admitted tables row h =
-    let pass = all_pass (has_row except_folder row.folder tables.excepts) (has_row screen_folder row.folder tables.screens || (length row.groups == 0)) (nat_lt most_screen_groups (length row.groups)) (nat_le most_excepts (length tables.excepts)) h in
-    record { free = pass.0; few = gt_is _ _ pass.1 }

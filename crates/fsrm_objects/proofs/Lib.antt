@@ -3,5 +3,3 @@ pub mod QuotaRows
 pub mod FaultLaws
 pub mod RunRows
 pub mod ScreenRows
-pub mod PlaceLaws
-pub mod RowPlaces

@@ -1,15 +1,11 @@
 -- How the tables of objects are held.
-use Rattle.std.specs.Prelude.{◌≡◌, ℕ, ◌+◌, ◌≤◌, ◌*◌, nat_le, true, List, length, map}
+use Rattle.std.specs.Prelude.{◌≡◌, ℕ, ◌≤◌, ◌*◌, nat_le, true, List, length}
 use Rattle.std.specs.List.{list_all}
-use Rattle.fsrm_model.specs.declared.row.ExceptRow.{ExceptRow}
 use Rattle.fsrm_model.specs.declared.row.QuotaRow.{QuotaRow}
-use Rattle.fsrm_model.specs.declared.row.ScreenRow.{ScreenRow}
 use Rattle.fsrm_base.specs.Keyed.{is_ascending}
-use Rattle.fsrm_model.specs.values.Limits.{most_quotas, most_screens, most_excepts, most_thresholds, most_actions, longest_action_text}
+use Rattle.fsrm_model.specs.values.Limits.{most_quotas, most_thresholds, most_actions, longest_action_text}
 use Rattle.fsrm_model.specs.objects.Quota.{folder_of}
-use Rattle.fsrm_model.specs.objects.Screens.{screen_folder, except_folder}
 use Rattle.fsrm_model.specs.values.Texts.{quota_bytes}
-use Rattle.fsrm_objects.specs.Tables.{Tables, quota_texts, screen_bytes, screen_texts}
 
 -- the bytes of the texts of a quota and of a screen whose lists and texts are as long as they may be
 abbrev pub most_quota_bytes : ℕ
@@ -30,22 +26,3 @@ pub record AreSmall {X : Type 0} (key bytes : X → ℕ) (most most_bytes : ℕ)
 
 abbrev pub AreSmallQuotas : List QuotaRow → Type 0
 AreSmallQuotas quotas = AreSmall folder_of quota_bytes most_quotas most_quota_bytes quotas
-
-abbrev pub AreSmallScreens : List ScreenRow → Type 0
-AreSmallScreens screens = AreSmall screen_folder screen_bytes most_screens most_screen_bytes screens
-
-abbrev pub AreHeldExcepts : List ExceptRow → Type 0
-AreHeldExcepts excepts = AreHeld except_folder most_excepts excepts
-
--- The rows of each table are so, the tables of places have their folders, the bytes of all texts are counted, and there is
--- memory for as many quotas as is said
-pub record IsKept (tables : Tables) (places screen_places except_places : List ℕ) (texts capacity : ℕ) : Type 0 where
-  pub quotas : AreSmallQuotas tables.quotas
-  pub quotas_placed : places ≡ map folder_of tables.quotas
-  pub screens : AreSmallScreens tables.screens
-  pub screens_placed : screen_places ≡ map screen_folder tables.screens
-  pub excepts : AreHeldExcepts tables.excepts
-  pub excepts_placed : except_places ≡ map except_folder tables.excepts
-  pub quotas_room : tables.room ≤ capacity
-  pub room_most : tables.room ≤ most_quotas
-  pub texts_are : texts ≡ quota_texts tables.quotas + screen_texts tables.screens

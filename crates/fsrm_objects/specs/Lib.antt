@@ -1,4 +1,3 @@
 pub mod Tables
 pub mod Kept
-pub mod PlaceTables
-pub mod KeptPlaces
+pub mod Runs

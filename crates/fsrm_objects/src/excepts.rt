@@ -1,16 +1,15 @@
 //! The table of the screens' exceptions.
 
-ghost use Rattle.std.specs.Prelude.{◌≡◌, ◌<◌, IfErr, MatchOption, OnOk, OnErr, None, Some, true, false, length, slice_get};
+ghost use Rattle.std.specs.Prelude.{◌≡◌, ◌<◌, IfErr, OnOk, OnErr, None, Some, true, false, length, slice_get};
 ghost use Rattle.std.specs.Option.{option_copied};
 ghost use Rattle.fsrm_base.specs.Keyed.{row_of, has_row};
-ghost use Rattle.fsrm_base.specs.Places.{IsAt};
 ghost use Rattle.fsrm_model.specs.objects.Screens.{except_folder};
 ghost use Rattle.fsrm_objects.specs.Tables.{IsFault, except_fault, with_except, without_except};
 
 use crate::answer::ObjectFault;
 use crate::objects::Objects;
 use fsrm_model::ExceptRow;
-use fsrm_model::limits::{MOST_EXCEPTS, MOST_SCREEN_GROUPS};
+use fsrm_model::limits::MOST_SCREEN_GROUPS;
 
 impl Objects {
     /// Adds an exception.
@@ -25,24 +24,16 @@ impl Objects {
         ensures err { OnErr result (self.new ≡ self.old) }
     {
         self.admit_except(&row)?;
-        self.excepts.reserve(1)?;
-        let place = self.except_places.insert(row.folder)?;
-        self.excepts.insert(place, row).unwrap();
+        self.excepts.reserve(self.excepts.len() + 1)?;
+        self.excepts.insert(row);
         Ok(())
-    }
-
-    // The place of a folder's exception.
-    fn except_place(&self, folder: u32) -> Option<usize>
-        ensures { MatchOption result (has_row except_folder folder self.now.excepts ≡ false) (IsAt except_folder folder self.now.excepts) }
-    {
-        self.except_places.place(folder)
     }
 
     /// Whether a folder has an exception.
     pub(crate) fn has_except(&self, folder: u32) -> bool
         ensures { result ≡ has_row except_folder folder self.now.excepts }
     {
-        self.except_place(folder).is_some()
+        self.excepts.has(folder)
     }
 
     // Whether a new exception may be added.
@@ -59,7 +50,7 @@ impl Objects {
         if row.groups.len() > MOST_SCREEN_GROUPS {
             return Err(ObjectFault::OutOfRange);
         }
-        if self.excepts.len() >= MOST_EXCEPTS {
+        if self.excepts.is_full() {
             return Err(ObjectFault::TableFull);
         }
         Ok(())
@@ -70,24 +61,21 @@ impl Objects {
         requires { has_row except_folder folder self.old.excepts ≡ true }
         ensures { self.new ≡ without_except self.old folder }
     {
-        let place = self.except_place(folder).unwrap();
-        self.excepts.remove(place);
-        self.except_places.remove(folder);
+        self.excepts.remove(folder);
     }
 
     /// A folder's exception.
     pub fn except(&self, folder: u32) -> Option<&ExceptRow>
         ensures { option_copied result ≡ row_of except_folder folder self.now.excepts }
     {
-        let place = self.except_place(folder)?;
-        Some(&self.excepts[place])
+        self.excepts.get(folder)
     }
 
     /// How many exceptions there are, at most 4,096.
     pub fn except_count(&self) -> u32
         ensures { result ≡ length self.now.excepts }
     {
-        self.excepts.len() as u32
+        self.excepts.len()
     }
 
     /// The exception at a place, from 0, in the order of the folders' numbers.
@@ -95,6 +83,6 @@ impl Objects {
         requires { place < length self.now.excepts }
         ensures { slice_get self.now.excepts place ≡ Some result.now }
     {
-        &self.excepts[place as usize]
+        self.excepts.at(place)
     }
 }

@@ -1,56 +1,46 @@
 //! The tables of objects.
 
-ghost use Rattle.std.specs.Prelude.{◌≡◌, ◌<◌, ◌≤◌, IfOk, IfErr, IsErrOf, MatchOption, OnOk, OnErr, [], None, Some, true, false, length, map, slice_get};
+ghost use Rattle.std.specs.Prelude.{◌≡◌, ◌<◌, ◌≤◌, IfErr, IsErrOf, MatchOption, OnOk, OnErr, [], None, Some, true, false, length, map, slice_get};
 ghost use Rattle.std.specs.Option.{option_copied};
 ghost use Rattle.fsrm_base.specs.Keyed.{row_of, has_row};
 ghost use Rattle.fsrm_model.specs.values.Limits.{most_quotas};
 ghost use Rattle.fsrm_model.specs.objects.Quota.{folder_of};
 ghost use Rattle.fsrm_model.specs.objects.Templates.{without_source};
-ghost use Rattle.fsrm_model.specs.values.Texts.{quota_bytes};
+ghost use Rattle.fsrm_model.specs.objects.Thresholds.{are_too_many};
 ghost use Rattle.fsrm_base.specs.Places.{IsAt};
 ghost use Rattle.fsrm_objects.specs.Kept.{AreSmallQuotas};
 ghost use Rattle.fsrm_objects.specs.Tables.{IsFault, has_short_texts, HasAction, other_fault, quota_fault, texts_in, with_quota, with_other, with_peak, with_run, with_state, without_quota};
 
 use crate::answer::ObjectFault;
-use crate::place_table::PlaceTable;
-use crate::runs::note_run;
-use crate::sources::forget_source;
+use crate::edits::{Peak, QuotaRun, Source, State};
+use crate::kinds::{Excepts, Quotas, Screens};
 use crate::texts::{are_too_many, left_of_thresholds, threshold_texts};
-use fsrm_model::limits::MOST_QUOTAS;
-use fsrm_model::{ExceptRow, NoMemory, QuotaRow, QuotaState, ScreenRow};
+use fsrm_model::{NoMemory, QuotaRow, QuotaState};
+use row_table::{Kind, Table};
 use std::alloc::Global;
 use std::marker::Model;
-use std::mem;
 
 /// The objects of a store. Contracts see the rows of each table, ascending by folder, each folder at most once, and for
 /// how many quotas there is memory in any case: none, or after `make_room` all.
 #[derive(Drop)]
 pub struct Objects {
-    quotas: Vec<QuotaRow>,
-    // Where each folder's quota stands.
-    places: PlaceTable,
-    // The bytes of all texts.
-    pub(crate) texts: u32,
-    pub(crate) screens: Vec<ScreenRow>,
-    // Where each folder's screen stands.
-    pub(crate) screen_places: PlaceTable,
-    pub(crate) excepts: Vec<ExceptRow>,
-    // Where each folder's exception stands.
-    pub(crate) except_places: PlaceTable,
+    quotas: Table<Quotas>,
+    // For so many quotas there is memory in any case: none, or after `make_room` all. The table's own room grows with
+    // each quota.
+    room: u32,
+    pub(crate) screens: Table<Screens>,
+    pub(crate) excepts: Table<Excepts>,
 }
 
 impl Model for Objects {
-    ghost use Rattle.std.specs.Vec.{vec_capacity};
-    ghost use Rattle.fsrm_objects.specs.Kept.{IsKept};
+    ghost use Rattle.std.specs.Prelude.{◌≤◌};
     ghost use Rattle.fsrm_objects.specs.Tables.{Tables};
 
     ghost Value = { Tables };
 
-    ghost view = { λ o. record { quotas = o.quotas.items; screens = o.screens.items; excepts = o.excepts.items; room = o.places.room } };
+    ghost view = { λ o. record { quotas = o.quotas.rows; screens = o.screens.rows; excepts = o.excepts.rows; room = o.room } };
 
-    ghost invariant = { λ o.
-        IsKept (record { quotas = o.quotas.items; screens = o.screens.items; excepts = o.excepts.items; room = o.places.room })
-        o.places.numbers o.screen_places.numbers o.except_places.numbers o.texts (vec_capacity o.quotas) };
+    ghost invariant = { λ o. o.room ≤ o.quotas.room };
 }
 
 impl Objects {
@@ -59,13 +49,10 @@ impl Objects {
         ensures { result ≡ record { quotas = []; screens = []; excepts = []; room = 0 } }
     {
         Objects {
-            quotas: Vec::new(alloc),
-            places: PlaceTable::new(alloc),
-            texts: 0,
-            screens: Vec::new(alloc),
-            screen_places: PlaceTable::new(alloc),
-            excepts: Vec::new(alloc),
-            except_places: PlaceTable::new(alloc),
+            quotas: Table::new(alloc),
+            room: 0,
+            screens: Table::new(alloc),
+            excepts: Table::new(alloc),
         }
     }
 
@@ -74,9 +61,8 @@ impl Objects {
         ensures ok { OnOk result (self.new ≡ record self.old { room = most_quotas }) }
         ensures err { OnErr result (self.new ≡ self.old) }
     {
-        let more = MOST_QUOTAS.saturating_sub(self.quotas.len());
-        self.quotas.reserve(more)?;
-        self.places.make_room(MOST_QUOTAS as u16)?;
+        self.quotas.reserve(Quotas::MOST)?;
+        self.room = Quotas::MOST;
         Ok(())
     }
 
@@ -94,41 +80,30 @@ impl Objects {
         ensures full { IsErrOf result ObjectFault.NoMemory → self.old.room ≤ length self.old.quotas }
         ensures err { OnErr result (self.new ≡ self.old) }
     {
-        let bytes = self.admit(&row, room)?;
-        self.quotas.reserve(1)?;
-        let place = self.places.insert(row.folder)?;
-        self.quotas.insert(place, row).unwrap();
-        self.texts += bytes;
+        self.admit(&row, room)?;
+        self.quotas.reserve(self.quotas.len() + 1)?;
+        self.quotas.insert(row);
         Ok(())
     }
 
-    // The place of a folder's quota.
-    fn place(&self, folder: u32) -> Option<usize>
-        ensures { MatchOption result (has_row folder_of folder self.now.quotas ≡ false) (IsAt folder_of folder self.now.quotas) }
-    {
-        self.places.place(folder)
-    }
-
-    // The bytes of a new quota's texts, if it may be added.
-    fn admit(&self, row: &QuotaRow, room: u32) -> Result<u32, ObjectFault>
-        ensures bytes { IfOk result (λ bytes. bytes ≡ quota_bytes row.now) }
+    // Whether a new quota may be added.
+    fn admit(&self, row: &QuotaRow, room: u32) -> Result<(), ObjectFault>
         ensures may { OnOk result (quota_fault self.now row.now room ≡ None) }
         ensures refused { IfErr result (λ fault. quota_fault self.now row.now room ≡ Some fault) }
     {
-        if self.place(row.folder).is_some() {
+        if self.quotas.has(row.folder) {
             return Err(ObjectFault::AlreadyExists);
         }
         if are_too_many(&row.thresholds) {
             return Err(ObjectFault::OutOfRange);
         }
-        if self.quotas.len() >= MOST_QUOTAS {
+        if self.quotas.is_full() {
             return Err(ObjectFault::TableFull);
         }
-        let room = u64::from(room);
-        let Some(left) = left_of_thresholds(&row.thresholds, room) else {
+        if left_of_thresholds(&row.thresholds, room.into()).is_none() {
             return Err(ObjectFault::TextsFull);
-        };
-        Ok((room - left) as u32)
+        }
+        Ok(())
     }
 
     /// Gives a folder that has a quota this one in its place. The texts of its actions have at most 1,024
@@ -148,7 +123,8 @@ impl Objects {
         self.swap_quota(&mut row, room)
     }
 
-    /// The same with a row that is lent. It becomes the quota that it replaces, or stays as it is at an `Err`.
+    /// Gives a folder that has a quota this one in its place, as `set_quota` does. The row is lent: it becomes the quota
+    /// that it replaces, or stays as it is at an `Err`.
     pub fn swap_quota(&mut self, row: &mut QuotaRow, room: u32) -> Result<(), ObjectFault>
         requires there { has_row folder_of row.old.folder self.old.quotas ≡ true }
         requires texts { has_short_texts row.old ≡ true }
@@ -160,12 +136,21 @@ impl Objects {
         ensures stays { OnErr result (row.new ≡ row.old) }
     {
         self.may_set(row, room)?;
-        let place = self.place(row.folder).unwrap();
-        let replaced = threshold_texts(&self.quotas[place].thresholds);
-        let bytes = threshold_texts(&row.thresholds);
-        self.texts = self.texts - replaced + bytes;
-        mem::swap(&mut self.quotas[place], row);
+        self.put_quota(row);
         Ok(())
+    }
+
+    /// Has this quota and that of its folder change places. This one has at most 16 thresholds, each of them at most 8
+    /// actions, and these texts of at most 1,024 bytes each. How much room the texts leave isn't asked: whoever puts
+    /// several quotas has judged that of all. It takes no memory.
+    pub fn put_quota(&mut self, row: &mut QuotaRow)
+        requires there { has_row folder_of row.old.folder self.old.quotas ≡ true }
+        requires short { are_too_many row.old.thresholds ≡ false }
+        requires texts { has_short_texts row.old ≡ true }
+        ensures put { self.new ≡ with_other self.old row.old }
+        ensures replaced { row_of folder_of row.old.folder self.old.quotas ≡ Some row.new }
+    {
+        self.quotas.swap(row);
     }
 
     /// Whether a folder's quota may get this one in its place, as `set_quota` judges it.
@@ -178,8 +163,8 @@ impl Objects {
         if are_too_many(&row.thresholds) {
             return Err(ObjectFault::OutOfRange);
         }
-        let place = self.place(row.folder).unwrap();
-        let replaced = threshold_texts(&self.quotas[place].thresholds);
+        let old = self.quotas.get(row.folder).unwrap();
+        let replaced = threshold_texts(&old.thresholds);
         let bytes = threshold_texts(&row.thresholds);
         if bytes.saturating_sub(replaced) > room {
             return Err(ObjectFault::TextsFull);
@@ -192,10 +177,7 @@ impl Objects {
         requires { has_row folder_of folder self.old.quotas ≡ true }
         ensures { self.new ≡ without_quota self.old folder }
     {
-        let place = self.place(folder).unwrap();
-        self.texts -= threshold_texts(&self.quotas[place].thresholds);
-        self.quotas.remove(place);
-        self.places.remove(folder);
+        self.quotas.remove(folder);
     }
 
     /// Takes a template, by its number, from each quota that was derived from it. The quotas stay, and all else of
@@ -203,7 +185,7 @@ impl Objects {
     pub fn clear_template(&mut self, template: u32)
         ensures { self.new ≡ record self.old { quotas = map (without_source template) self.old.quotas } }
     {
-        forget_source(&mut self.quotas, template);
+        self.quotas.change_each(&Source { template });
     }
 
     /// Sets the peak of a folder's quota, in bytes, and its moment.
@@ -211,10 +193,13 @@ impl Objects {
         requires { has_row folder_of folder self.old.quotas ≡ true }
         ensures { self.new ≡ with_peak self.old folder peak moment }
     {
-        let place = self.place(folder).unwrap();
-        let quota = &mut self.quotas[place];
-        quota.peak = peak;
-        quota.peak_at = moment;
+        self.quotas.change(
+            folder,
+            &Peak {
+                bytes: peak,
+                moment,
+            },
+        );
     }
 
     /// Sets the state of a folder's quota. All else of the quota stays.
@@ -222,8 +207,7 @@ impl Objects {
         requires { has_row folder_of folder self.old.quotas ≡ true }
         ensures { self.new ≡ with_state self.old folder state }
     {
-        let place = self.place(folder).unwrap();
-        self.quotas[place].state = state;
+        self.quotas.change(folder, &State { state });
     }
 
     /// Notes that an action of a folder's quota ran at a moment: the one at a place, from 0, of the
@@ -232,24 +216,26 @@ impl Objects {
         requires { HasAction self.old folder percent place }
         ensures { self.new ≡ with_run self.old folder percent place moment }
     {
-        let at = self.place(folder).unwrap();
-        let quota = &mut self.quotas[at];
-        note_run(&mut quota.thresholds, percent, place, moment);
+        let run = QuotaRun {
+            percent,
+            place,
+            moment,
+        };
+        self.quotas.change(folder, &run);
     }
 
     /// A folder's quota.
     pub fn quota(&self, folder: u32) -> Option<&QuotaRow>
         ensures { option_copied result ≡ row_of folder_of folder self.now.quotas }
     {
-        let place = self.place(folder)?;
-        Some(&self.quotas[place])
+        self.quotas.get(folder)
     }
 
     /// The bytes of all texts that the rows hold.
     pub fn texts(&self) -> u32
         ensures { result ≡ texts_in self.now }
     {
-        self.texts
+        self.quotas.texts() + self.screens.texts()
     }
 
     /// How many quotas there are, at most 4,096. `kept` says that they ascend by folder, and how long the texts of each
@@ -258,7 +244,7 @@ impl Objects {
         ensures count { result ≡ length self.now.quotas }
         ensures kept { AreSmallQuotas self.now.quotas }
     {
-        self.quotas.len() as u32
+        self.quotas.len()
     }
 
     /// The place of a folder's quota, from 0, in the order of the folders' numbers: below 4,096.
@@ -266,8 +252,7 @@ impl Objects {
         ensures place { MatchOption result (has_row folder_of folder self.now.quotas ≡ false) (IsAt folder_of folder self.now.quotas) }
         ensures few { length self.now.quotas ≤ most_quotas }
     {
-        let place = self.places.place(folder)?;
-        Some(place as u32)
+        self.quotas.place(folder)
     }
 
     /// The quota at a place, from 0, in the order of the folders' numbers.
@@ -275,6 +260,6 @@ impl Objects {
         requires { place < length self.now.quotas }
         ensures { slice_get self.now.quotas place ≡ Some result.now }
     {
-        &self.quotas[place as usize]
+        self.quotas.at(place)
     }
 }

@@ -1,18 +1,16 @@
 //! The table of screens.
 
-ghost use Rattle.std.specs.Prelude.{◌≡◌, ◌<◌, IfOk, IfErr, MatchOption, OnOk, OnErr, None, Some, true, false, length, slice_get};
+ghost use Rattle.std.specs.Prelude.{◌≡◌, ◌<◌, IfErr, OnOk, OnErr, None, Some, true, false, length, slice_get};
 ghost use Rattle.std.specs.Option.{option_copied};
 ghost use Rattle.fsrm_base.specs.Keyed.{row_of, has_row};
-ghost use Rattle.fsrm_base.specs.Places.{IsAt};
 ghost use Rattle.fsrm_model.specs.objects.Screens.{screen_folder};
-ghost use Rattle.fsrm_objects.specs.Tables.{IsFault, HasScreenAction, has_short_actions, other_screen_fault, screen_bytes, screen_fault, with_other_screen, with_screen, with_screen_run, without_screen};
+ghost use Rattle.fsrm_objects.specs.Tables.{IsFault, HasScreenAction, has_short_actions, other_screen_fault, screen_fault, with_other_screen, with_screen, with_screen_run, without_screen};
 
 use crate::answer::ObjectFault;
+use crate::edits::ScreenRun;
 use crate::objects::Objects;
-use crate::runs::note_last;
 use crate::texts::{is_long_screen, left_of_actions, texts_of_actions};
 use fsrm_model::ScreenRow;
-use fsrm_model::limits::MOST_SCREENS;
 
 impl Objects {
     /// Adds a screen, whose actions have texts of at most 1,024 bytes each.
@@ -28,31 +26,21 @@ impl Objects {
         ensures refused { IfErr result (λ fault. IsFault fault (screen_fault self.old row room)) }
         ensures err { OnErr result (self.new ≡ self.old) }
     {
-        let bytes = self.admit_screen(&row, room)?;
-        self.screens.reserve(1)?;
-        let place = self.screen_places.insert(row.folder)?;
-        self.screens.insert(place, row).unwrap();
-        self.texts += bytes;
+        self.admit_screen(&row, room)?;
+        self.screens.reserve(self.screens.len() + 1)?;
+        self.screens.insert(row);
         Ok(())
-    }
-
-    // The place of a folder's screen.
-    fn screen_place(&self, folder: u32) -> Option<usize>
-        ensures { MatchOption result (has_row screen_folder folder self.now.screens ≡ false) (IsAt screen_folder folder self.now.screens) }
-    {
-        self.screen_places.place(folder)
     }
 
     /// Whether a folder has a screen.
     pub(crate) fn has_screen(&self, folder: u32) -> bool
         ensures { result ≡ has_row screen_folder folder self.now.screens }
     {
-        self.screen_place(folder).is_some()
+        self.screens.has(folder)
     }
 
-    // The bytes of a new screen's texts, if it may be added.
-    fn admit_screen(&self, row: &ScreenRow, room: u32) -> Result<u32, ObjectFault>
-        ensures bytes { IfOk result (λ bytes. bytes ≡ screen_bytes row.now) }
+    // Whether a new screen may be added.
+    fn admit_screen(&self, row: &ScreenRow, room: u32) -> Result<(), ObjectFault>
         ensures may { OnOk result (screen_fault self.now row.now room ≡ None) }
         ensures refused { IfErr result (λ fault. screen_fault self.now row.now room ≡ Some fault) }
     {
@@ -65,14 +53,13 @@ impl Objects {
         if is_long_screen(row) {
             return Err(ObjectFault::OutOfRange);
         }
-        if self.screens.len() >= MOST_SCREENS {
+        if self.screens.is_full() {
             return Err(ObjectFault::TableFull);
         }
-        let room = u64::from(room);
-        let Some(left) = left_of_actions(&row.actions, room) else {
+        if left_of_actions(&row.actions, room.into()).is_none() {
             return Err(ObjectFault::TextsFull);
-        };
-        Ok((room - left) as u32)
+        }
+        Ok(())
     }
 
     /// Gives a folder that has a screen this one in its place. The texts of its actions have at most 1,024
@@ -81,7 +68,7 @@ impl Objects {
     /// It is refused if it has no file group, else if it has more than 16 file groups or 8 actions, else if
     /// its texts, less those of the screen that it replaces, are longer than `room`. It takes no memory. An
     /// `Err` changes nothing, and the row is dropped.
-    pub fn set_screen(&mut self, row: ScreenRow, room: u32) -> Result<(), ObjectFault>
+    pub fn set_screen(&mut self, mut row: ScreenRow, room: u32) -> Result<(), ObjectFault>
         requires there { has_row screen_folder row.folder self.old.screens ≡ true }
         requires texts { has_short_actions row ≡ true }
         ensures ok { OnOk result (self.new ≡ with_other_screen self.old row) }
@@ -90,11 +77,7 @@ impl Objects {
         ensures err { OnErr result (self.new ≡ self.old) }
     {
         self.may_set_screen(&row, room)?;
-        let place = self.screen_place(row.folder).unwrap();
-        let replaced = texts_of_actions(&self.screens[place].actions);
-        let bytes = texts_of_actions(&row.actions);
-        self.texts = self.texts - replaced + bytes;
-        self.screens[place] = row;
+        self.screens.swap(&mut row);
         Ok(())
     }
 
@@ -111,8 +94,8 @@ impl Objects {
         if is_long_screen(row) {
             return Err(ObjectFault::OutOfRange);
         }
-        let place = self.screen_place(row.folder).unwrap();
-        let replaced = texts_of_actions(&self.screens[place].actions);
+        let old = self.screens.get(row.folder).unwrap();
+        let replaced = texts_of_actions(&old.actions);
         let bytes = texts_of_actions(&row.actions);
         if bytes.saturating_sub(replaced) > room {
             return Err(ObjectFault::TextsFull);
@@ -125,10 +108,7 @@ impl Objects {
         requires { has_row screen_folder folder self.old.screens ≡ true }
         ensures { self.new ≡ without_screen self.old folder }
     {
-        let place = self.screen_place(folder).unwrap();
-        self.texts -= texts_of_actions(&self.screens[place].actions);
-        self.screens.remove(place);
-        self.screen_places.remove(folder);
+        self.screens.remove(folder);
     }
 
     /// Notes that an action of a folder's screen ran at a moment, in seconds since 1970-01-01 00:00:00 UTC: the one at
@@ -137,24 +117,21 @@ impl Objects {
         requires { HasScreenAction self.old folder place }
         ensures { self.new ≡ with_screen_run self.old folder place moment }
     {
-        let at = self.screen_place(folder).unwrap();
-        let screen = &mut self.screens[at];
-        note_last(&mut screen.actions, place, moment);
+        self.screens.change(folder, &ScreenRun { place, moment });
     }
 
     /// A folder's screen.
     pub fn screen(&self, folder: u32) -> Option<&ScreenRow>
         ensures { option_copied result ≡ row_of screen_folder folder self.now.screens }
     {
-        let place = self.screen_place(folder)?;
-        Some(&self.screens[place])
+        self.screens.get(folder)
     }
 
     /// How many screens there are, at most 4,096.
     pub fn screen_count(&self) -> u32
         ensures { result ≡ length self.now.screens }
     {
-        self.screens.len() as u32
+        self.screens.len()
     }
 
     /// The screen at a place, from 0, in the order of the folders' numbers.
@@ -162,6 +139,6 @@ impl Objects {
         requires { place < length self.now.screens }
         ensures { slice_get self.now.screens place ≡ Some result.now }
     {
-        &self.screens[place as usize]
+        self.screens.at(place)
     }
 }
