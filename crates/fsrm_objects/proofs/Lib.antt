@@ -1,4 +1,3 @@
-pub mod HeldRows
 pub mod QuotaRows
 pub mod FaultLaws
 pub mod RunRows

@@ -1,5 +1,5 @@
 -- Templates and auto-apply quotas, and edits of their tables.
-use Rattle.std.specs.Prelude.{ℕ, ◌+◌, ◌&&◌, not, Bool, List, [], filter, sum_by}
+use Rattle.std.specs.Prelude.{ℕ, ◌+◌, List, [], filter, sum_by}
 use Rattle.std.specs.Option.{option_map_or}
 use Rattle.fsrm_base.specs.Keyed.{least_free, with_row, with_change, without_row}
 use Rattle.fsrm_model.specs.declared.command.Update.{Update}
@@ -7,12 +7,9 @@ use Rattle.fsrm_model.specs.declared.row.AutoRow.{AutoRow}
 use Rattle.fsrm_model.specs.declared.row.QuotaRow.{QuotaRow}
 use Rattle.fsrm_model.specs.declared.row.TemplateRow.{TemplateRow}
 use Rattle.fsrm_model.specs.objects.AutoApply.{auto_folder}
-use Rattle.fsrm_model.specs.objects.Quota.{folder_of}
 use Rattle.fsrm_model.specs.objects.Templates.{is_reached, template_number, template_of}
 use Rattle.fsrm_model.specs.commands.TemplateWork.{updated_quotas}
 use Rattle.fsrm_model.specs.values.Texts.{auto_bytes, template_bytes}
-use Rattle.fsrm_model.specs.objects.Thresholds.{are_too_many}
-use Rattle.fsrm_objects.specs.Tables.{has_short_texts}
 
 -- the rows of both tables
 pub record Held : Type 0 where
@@ -53,11 +50,3 @@ reached_by held row mode quotas =
 
 abbrev pub updated_by : Held → TemplateRow → Update → List QuotaRow → List QuotaRow
 updated_by held row mode quotas = updated_quotas mode (template_of held.templates row.number) (λ old. row) quotas
-
--- quotas in which one stands in the place of that of its folder
-abbrev pub with_replaced : List QuotaRow → QuotaRow → List QuotaRow
-with_replaced quotas row = with_change folder_of row.folder (λ old. row) quotas
-
--- whether the lists and the texts of a quota are no longer than they may be
-abbrev pub is_small : QuotaRow → Bool
-is_small row = not (are_too_many row.thresholds) && has_short_texts row

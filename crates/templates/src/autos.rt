@@ -11,10 +11,7 @@ ghost use Rattle.templates.specs.Held.{with_auto, without_auto};
 
 use crate::answer::TemplateFault;
 use crate::rows;
-use crate::rows::ByFolder;
 use crate::templates::Templates;
-use fsrm_base::places::{gap, search};
-use fsrm_model::limits::MOST_AUTOS;
 use fsrm_model::{AutoRow, NoMemory};
 
 impl Templates {
@@ -38,15 +35,16 @@ impl Templates {
     }
 
     // Whether a new auto-apply quota may be added.
+    #[tactic(auto, using(crate::proofs::PartLaws::auto_fits))]
     fn admit_auto(&self, row: &AutoRow, room: u32) -> Result<(), TemplateFault>
         requires { is_auto row.now ≡ true }
         ensures may { OnOk result (auto_fault self.now row.now room ≡ None) }
         ensures refused { IfErr result (λ fault. auto_fault self.now row.now room ≡ Some fault) }
     {
-        if search::<ByFolder>(&self.autos, row.folder).is_ok() {
+        if self.autos.has(row.folder) {
             return Err(TemplateFault::AlreadyExists);
         }
-        if self.autos.len() >= MOST_AUTOS {
+        if self.autos.is_full() {
             return Err(TemplateFault::TableFull);
         }
         if rows::auto_texts(row) > room {
@@ -56,6 +54,7 @@ impl Templates {
     }
 
     // Puts an auto-apply quota that nothing refuses into its place.
+    #[tactic(auto, using(crate::proofs::PartLaws::auto_fits))]
     fn insert_auto(&mut self, row: AutoRow) -> Result<(), NoMemory>
         requires there { has_row template_number row.template self.old.templates ≡ true }
         requires valid { is_auto row ≡ true }
@@ -64,10 +63,8 @@ impl Templates {
         ensures ok { OnOk result (self.new ≡ with_auto self.old row) }
         ensures err { OnErr result (self.new ≡ self.old) }
     {
-        let place = gap::<ByFolder>(&self.autos, row.folder);
-        let bytes = rows::auto_texts(&row);
-        self.autos.insert(place, row)?;
-        self.texts += bytes;
+        self.autos.reserve(self.autos.len() + 1)?;
+        self.autos.insert(row);
         Ok(())
     }
 
@@ -76,9 +73,7 @@ impl Templates {
         requires { has_row auto_folder folder self.old.autos ≡ true }
         ensures { self.new ≡ without_auto self.old folder }
     {
-        let place = search::<ByFolder>(&self.autos, folder).unwrap();
-        self.texts -= rows::auto_texts(&self.autos[place]);
-        self.autos.remove(place);
+        self.autos.remove(folder);
     }
 
     /// A folder's auto-apply quota, whose template is there.
@@ -86,8 +81,7 @@ impl Templates {
         ensures found { option_copied result ≡ row_of auto_folder folder self.now.autos }
         ensures there { IfSome (row_of auto_folder folder self.now.autos) (λ auto. has_row template_number auto.template self.now.templates ≡ true) }
     {
-        let place = search::<ByFolder>(&self.autos, folder).ok()?;
-        Some(&self.autos[place])
+        self.autos.get(folder)
     }
 
     /// The number of the template of which a folder of this name in this folder gets a quota. None if this folder has
@@ -107,7 +101,7 @@ impl Templates {
     pub fn auto_count(&self) -> u32
         ensures { result ≡ length self.now.autos }
     {
-        self.autos.len() as u32
+        self.autos.len()
     }
 
     /// The auto-apply quota at a place, from 0, in the order of the folders' numbers.
@@ -115,6 +109,6 @@ impl Templates {
         requires { place < length self.now.autos }
         ensures { slice_get self.now.autos place ≡ Some result.now }
     {
-        &self.autos[place as usize]
+        self.autos.at(place)
     }
 }

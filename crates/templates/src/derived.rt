@@ -1,8 +1,7 @@
 //! Quotas that are derived from a template, and what its change makes of them.
 
-ghost use Rattle.std.specs.Prelude.{◌≡◌, ◌+◌, ◌<◌, IfOk, IfErr, OnOk, OnErr, None, Some, true, filter, fold, length, map, nat_lt, option_map, slice_get, slice_set};
-ghost use Rattle.std.specs.List.{list_all};
-ghost use Rattle.fsrm_base.specs.Keyed.{has_row, is_ascending, row_of};
+ghost use Rattle.std.specs.Prelude.{◌≡◌, ◌+◌, IfOk, IfErr, OnOk, OnErr, None, Some, true, filter, map, nat_lt, option_map};
+ghost use Rattle.fsrm_base.specs.Keyed.{has_row, is_ascending};
 ghost use Rattle.fsrm_model.specs.declared.row.QuotaRow.{QuotaRow};
 ghost use Rattle.fsrm_model.specs.declared.row.TemplateRow.{TemplateRow};
 ghost use Rattle.fsrm_model.specs.objects.Quota.{folder_of};
@@ -10,13 +9,12 @@ ghost use Rattle.fsrm_model.specs.objects.Templates.{as_template, derived, is_re
 ghost use Rattle.fsrm_model.specs.values.Texts.{template_bytes};
 ghost use Rattle.fsrm_objects.specs.Tables.{quota_texts};
 ghost use Rattle.templates.specs.Faults.{IsFault, modify_fault, update_fault};
-ghost use Rattle.templates.specs.Held.{is_small, reached_by, updated_by, with_other, with_replaced};
+ghost use Rattle.templates.specs.Held.{reached_by, updated_by, with_other};
 
 use crate::answer::TemplateFault;
 use crate::matching::is_reached;
-use crate::rows::{ByNumber, template_texts};
+use crate::rows::template_texts;
 use crate::templates::Templates;
-use fsrm_base::places::search;
 use fsrm_model::{Duplicate, List, NoMemory, QuotaRow, QuotaState, TemplateRow, Update};
 use fsrm_objects::{Objects, threshold_texts};
 use std::alloc::Global;
@@ -35,8 +33,7 @@ impl Templates {
         requires { has_row template_number number self.now.templates ≡ true }
         ensures { IfOk result (λ row. (template : TemplateRow) → template_of self.now.templates number ≡ Some template → row ≡ derived template folder state moment) }
     {
-        let place = search::<ByNumber>(&self.templates, number).unwrap();
-        derived(alloc, &self.templates[place], folder, state, moment)
+        derived(alloc, self.there(number), folder, state, moment)
     }
 
     /// Puts this row in the place of the template of its number, which has its name, and gives the quotas that were
@@ -47,6 +44,7 @@ impl Templates {
     /// `room` is how many bytes of texts may still come. The change is refused, by TextsFull alone, if the texts of all
     /// templates and quotas after it, less those before it, are longer than `room`; else NoMemory alone may come. An
     /// `Err` changes nothing, and the row is dropped.
+    #[tactic(auto, using(crate::proofs::HeldLaws::named_there, crate::proofs::UpdateLaws::update_due))]
     pub fn modify(
         &mut self,
         alloc: Global,
@@ -65,8 +63,8 @@ impl Templates {
         ensures err { OnErr result (self.new ≡ self.old) }
         ensures kept { OnErr result (objects.new ≡ objects.old) }
     {
-        let place = search::<ByNumber>(&self.templates, row.number).unwrap();
-        let reached = update(alloc, objects, &self.templates[place], &row, mode, room)?;
+        let old = self.there(row.number);
+        let reached = update(alloc, objects, old, &row, mode, room)?;
         self.replace(row);
         Ok(reached)
     }
@@ -115,11 +113,16 @@ fn update(
         return Err(TemplateFault::TextsFull);
     }
     let mut quotas = updated_quotas(alloc, objects, old, new, mode)?;
-    swap_all(objects, &mut quotas);
+    for place in 0..quotas.len() {
+        let quota = quotas.get_mut(place).unwrap();
+        // That the texts of all of them fit was judged at once, before any was put (`is_long_update`).
+        objects.put_quota(quota);
+    }
     Ok(quotas)
 }
 
 // Whether the texts of a template and of all quotas after its change, less those before it, are longer than the room.
+#[tactic(auto, using(crate::proofs::UpdateLaws::fitting))]
 fn is_long_update(
     objects: &Objects,
     old: &TemplateRow,
@@ -131,17 +134,17 @@ fn is_long_update(
     requires new { is_template new.now ≡ true }
     ensures { result ≡ nat_lt (room + (template_bytes old.now + quota_texts objects.now.quotas)) (template_bytes new.now + quota_texts (map (updated mode old.now new.now) objects.now.quotas)) }
 {
-    let each = threshold_texts(&new.thresholds);
-    let mut before = template_texts(old);
-    let mut after = template_texts(new);
+    let each = u64::from(threshold_texts(&new.thresholds));
+    let mut before = u64::from(room) + u64::from(template_texts(old));
+    let mut after = u64::from(template_texts(new));
     for place in 0..objects.quota_count() {
         let quota = objects.quota_at(place);
         if is_reached(mode, old, quota) {
-            before += threshold_texts(&quota.thresholds);
+            before += u64::from(threshold_texts(&quota.thresholds));
             after += each;
         }
     }
-    after.saturating_sub(before) > room
+    before < after
 }
 
 // What a template's change makes of the quotas that it reaches, in the order of their folders.
@@ -183,30 +186,4 @@ fn as_template(
         peak: quota.peak,
         peak_at: quota.peak_at,
     })
-}
-
-// Puts quotas in the places of those of their folders, and has those in their place. It takes no memory.
-fn swap_all(objects: &mut Objects, quotas: &mut List<QuotaRow>)
-    requires ascending { is_ascending folder_of quotas.old ≡ true }
-    requires there { list_all (λ row. has_row folder_of row.folder objects.old.quotas) quotas.old ≡ true }
-    requires small { list_all is_small quotas.old ≡ true }
-    ensures put { objects.new ≡ record objects.old { quotas = fold with_replaced objects.old.quotas quotas.old } }
-    ensures replaced { map Some quotas.new ≡ map (λ row. row_of folder_of row.folder objects.old.quotas) quotas.old }
-{
-    for place in 0..quotas.len() {
-        swap_at(objects, quotas, place);
-    }
-}
-
-// The same of the quota at a place alone.
-fn swap_at(objects: &mut Objects, quotas: &mut List<QuotaRow>, place: usize)
-    requires within { place < length quotas.old }
-    requires there { (row : QuotaRow) → slice_get quotas.old place ≡ Some row → has_row folder_of row.folder objects.old.quotas ≡ true }
-    requires small { (row : QuotaRow) → slice_get quotas.old place ≡ Some row → is_small row ≡ true }
-    ensures put { (row : QuotaRow) → slice_get quotas.old place ≡ Some row → objects.new ≡ record objects.old { quotas = with_replaced objects.old.quotas row } }
-    ensures replaced { (row : QuotaRow) → slice_get quotas.old place ≡ Some row → map Some quotas.new ≡ slice_set (map Some quotas.old) place (row_of folder_of row.folder objects.old.quotas) }
-{
-    let quota = quotas.get_mut(place).unwrap();
-    // That the texts of all of them fit was judged at once, before any was put (`is_long_update`).
-    objects.swap_quota(quota, u32::MAX).unwrap();
 }

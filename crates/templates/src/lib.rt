@@ -9,6 +9,7 @@
 mod answer;
 mod autos;
 mod derived;
+mod kinds;
 mod matching;
 mod rows;
 mod templates;

@@ -1,9 +1,9 @@
 //! The tables, and the templates in them.
 
-ghost use Rattle.std.specs.Prelude.{◌≡◌, ◌<◌, IfOk, IfErr, IfSome, OnOk, OnErr, [], None, Some, true, false, length, option_map, slice_get};
+ghost use Rattle.std.specs.Prelude.{◌≡◌, ◌<◌, ◌==◌, IfOk, IfErr, IfSome, OnOk, OnErr, [], None, Some, true, false, length, option_map, slice_get};
 ghost use Rattle.std.specs.List.{list_any};
 ghost use Rattle.std.specs.Option.{option_copied};
-ghost use Rattle.fsrm_base.specs.Keyed.{has_row};
+ghost use Rattle.fsrm_base.specs.Keyed.{has_row, is_ascending};
 ghost use Rattle.fsrm_model.specs.declared.row.TemplateRow.{TemplateRow};
 ghost use Rattle.fsrm_model.specs.values.Limits.{most_templates};
 ghost use Rattle.fsrm_model.specs.values.Name.{is_named};
@@ -13,11 +13,10 @@ ghost use Rattle.templates.specs.Held.{numbered, texts_in, with_other, with_temp
 ghost use Rattle.templates.specs.Kept.{AreHeld};
 
 use crate::answer::TemplateFault;
+use crate::kinds::{AutoQuotas, Named, Uses, WholeTemplates};
 use crate::rows;
-use crate::rows::ByNumber;
-use fsrm_base::places::{free_number, gap, search};
-use fsrm_model::limits::MOST_TEMPLATES;
-use fsrm_model::{AutoRow, NoMemory, TemplateRow};
+use fsrm_model::{NoMemory, TemplateRow};
+use row_table::Table;
 use std::alloc::Global;
 use std::marker::Model;
 
@@ -27,21 +26,19 @@ use std::marker::Model;
 /// most once, and the template of each is there. `texts` has a clause that says so.
 #[derive(Drop)]
 pub struct Templates {
-    pub(crate) templates: Vec<TemplateRow>,
-    pub(crate) autos: Vec<AutoRow>,
-    // The bytes of all texts.
-    pub(crate) texts: u32,
+    pub(crate) templates: Table<WholeTemplates>,
+    pub(crate) autos: Table<AutoQuotas>,
 }
 
 impl Model for Templates {
     ghost use Rattle.templates.specs.Held.{Held};
-    ghost use Rattle.templates.specs.Kept.{AreHeld};
+    ghost use Rattle.templates.specs.Kept.{AreTied};
 
     ghost Value = { Held };
 
-    ghost view = { λ t. record { templates = t.templates.items; autos = t.autos.items } };
+    ghost view = { λ t. record { templates = t.templates.rows; autos = t.autos.rows } };
 
-    ghost invariant = { λ t. AreHeld (record { templates = t.templates.items; autos = t.autos.items }) t.texts };
+    ghost invariant = { λ t. AreTied (record { templates = t.templates.rows; autos = t.autos.rows }) };
 }
 
 impl Templates {
@@ -50,9 +47,8 @@ impl Templates {
         ensures { result ≡ record { templates = []; autos = [] } }
     {
         Templates {
-            templates: Vec::new(alloc),
-            autos: Vec::new(alloc),
-            texts: 0,
+            templates: Table::new(alloc),
+            autos: Table::new(alloc),
         }
     }
 
@@ -72,7 +68,7 @@ impl Templates {
         ensures err { OnErr result (self.new ≡ self.old) }
     {
         self.admit(&row, room)?;
-        let number = free_number::<ByNumber>(&self.templates);
+        let number = self.templates.free_number();
         self.insert(TemplateRow { number, ..row })?;
         Ok(number)
     }
@@ -93,15 +89,17 @@ impl Templates {
     }
 
     // Whether a new template may be added, whose number isn't looked at.
+    #[tactic(auto, using(crate::proofs::PartLaws::new_fits))]
     fn admit(&self, row: &TemplateRow, room: u32) -> Result<(), TemplateFault>
         requires { is_template (record row.now { number = 0 }) ≡ true }
+        ensures few { OnOk result (length self.now.templates < most_templates) }
         ensures may { OnOk result (template_fault self.now row.now room ≡ None) }
         ensures refused { IfErr result (λ fault. template_fault self.now row.now room ≡ Some fault) }
     {
-        if rows::find(&self.templates, row.name.as_str()).is_some() {
+        if self.is_taken(row.name.as_str()) {
             return Err(TemplateFault::DuplicateName);
         }
-        if self.templates.len() >= MOST_TEMPLATES {
+        if self.templates.is_full() {
             return Err(TemplateFault::TableFull);
         }
         if rows::template_texts(row) > room {
@@ -110,7 +108,15 @@ impl Templates {
         Ok(())
     }
 
+    // Whether a template has this name, in any spelling.
+    fn is_taken(&self, name: &str) -> bool
+        ensures { result ≡ list_any (is_named template_name name.now) self.now.templates }
+    {
+        self.templates.find(&Named { name }).is_some()
+    }
+
     // Puts a template that nothing refuses into its place.
+    #[tactic(auto, using(crate::proofs::PartLaws::template_fits))]
     fn insert(&mut self, row: TemplateRow) -> Result<(), NoMemory>
         requires valid { is_template row ≡ true }
         requires free { has_row template_number row.number self.old.templates ≡ false }
@@ -119,24 +125,20 @@ impl Templates {
         ensures ok { OnOk result (self.new ≡ with_template self.old row) }
         ensures err { OnErr result (self.new ≡ self.old) }
     {
-        let place = gap::<ByNumber>(&self.templates, row.number);
-        let bytes = rows::template_texts(&row);
-        self.templates.insert(place, row)?;
-        self.texts += bytes;
+        self.templates.reserve(self.templates.len() + 1)?;
+        self.templates.insert(row);
         Ok(())
     }
 
     // Puts this row in the place of the template of its number, which has its name. It takes no memory.
-    pub(crate) fn replace(&mut self, row: TemplateRow)
+    #[tactic(auto, using(crate::proofs::HeldLaws::named_there, crate::proofs::PartLaws::template_fits))]
+    pub(crate) fn replace(&mut self, mut row: TemplateRow)
+        requires ascending { is_ascending template_number self.old.templates ≡ true }
         requires named { option_map template_name (template_of self.old.templates row.number) ≡ Some row.name }
         requires valid { is_template row ≡ true }
         ensures { self.new ≡ with_other self.old row }
     {
-        let place = search::<ByNumber>(&self.templates, row.number).unwrap();
-        let replaced = rows::template_texts(&self.templates[place]);
-        let bytes = rows::template_texts(&row);
-        self.texts = self.texts - replaced + bytes;
-        self.templates[place] = row;
+        self.templates.swap(&mut row);
     }
 
     /// Takes the template of a number away, which is there. It is refused, by InUse alone, if an auto-apply quota names
@@ -149,13 +151,28 @@ impl Templates {
         ensures refused { IfErr result (λ fault. delete_fault self.old number ≡ Some fault) }
         ensures err { OnErr result (self.new ≡ self.old) }
     {
-        if rows::is_used(&self.autos, number) {
+        if self.is_used(number) {
             return Err(TemplateFault::InUse);
         }
-        let place = search::<ByNumber>(&self.templates, number).unwrap();
-        self.texts -= rows::template_texts(&self.templates[place]);
-        self.templates.remove(place);
+        self.templates.remove(number);
         Ok(())
+    }
+
+    // Whether an auto-apply quota names the template of a number.
+    fn is_used(&self, number: u32) -> bool
+        ensures { result ≡ list_any (λ auto. auto.template == number) self.now.autos }
+    {
+        self.autos.find(&Uses { template: number }).is_some()
+    }
+
+    // The template of a number, which is there.
+    pub(crate) fn there(&self, number: u32) -> &TemplateRow
+        requires { has_row template_number number self.now.templates ≡ true }
+        ensures found { template_of self.now.templates number ≡ Some result.now }
+        ensures valid { is_template result.now ≡ true }
+        ensures ascending { is_ascending template_number self.now.templates ≡ true }
+    {
+        self.templates.get(number).unwrap()
     }
 
     /// The number of the template of a name, in any spelling.
@@ -163,15 +180,15 @@ impl Templates {
         ensures found { result ≡ option_map template_number (template_named self.now.templates name.now) }
         ensures there { IfSome result (λ number. has_row template_number number self.now.templates ≡ true) }
     {
-        rows::find(&self.templates, name)
+        let template = self.templates.find(&Named { name })?;
+        Some(template.number)
     }
 
     /// The template of a number.
     pub fn template(&self, number: u32) -> Option<&TemplateRow>
         ensures { option_copied result ≡ template_of self.now.templates number }
     {
-        let place = search::<ByNumber>(&self.templates, number).ok()?;
-        Some(&self.templates[place])
+        self.templates.get(number)
     }
 
     /// The bytes of all texts: names of templates, texts of their actions, excluded names. `kept` says how the tables
@@ -180,14 +197,14 @@ impl Templates {
         ensures bytes { result ≡ texts_in self.now }
         ensures kept { AreHeld self.now result }
     {
-        self.texts
+        self.templates.texts() + self.autos.texts()
     }
 
     /// How many templates there are, at most 1,024.
     pub fn template_count(&self) -> u32
         ensures { result ≡ length self.now.templates }
     {
-        self.templates.len() as u32
+        self.templates.len()
     }
 
     /// The template at a place, from 0, in the order of the numbers.
@@ -195,6 +212,6 @@ impl Templates {
         requires { place < length self.now.templates }
         ensures { slice_get self.now.templates place ≡ Some result.now }
     {
-        &self.templates[place as usize]
+        self.templates.at(place)
     }
 }

@@ -1,45 +1,51 @@
-use Rattle.std.proofs.Common.{List, refl, ◌∙◌, ap}
-use Rattle.std.specs.List.{list_all}
-use Rattle.std.specs.Prelude.{filter, fold, map}
-use Rattle.fsrm_base.specs.Keyed.{has_row, is_ascending}
-use Rattle.fsrm_base.proofs.Order.{ascending-filter, ascending-map}
+use Rattle.std.proofs.Common.{◌<◌, length, sym, ◌∙◌, ap, arith}
+use Rattle.std.proofs.lemmas.List.{length-map}
+use Rattle.std.specs.Option.{option_copied_mut}
+use Rattle.std.specs.Prelude.{filter}
+use Rattle.fsrm_base.proofs.Look.{found_has}
+use Rattle.fsrm_base.proofs.SortedRows.{there}
 use Rattle.fsrm_model.specs.declared.row.QuotaRow.{QuotaRow}
 use Rattle.fsrm_model.specs.objects.Quota.{folder_of}
 use Rattle.fsrm_model.specs.objects.Templates.{as_template, is_reached}
-use Rattle.templates.specs.Held.{is_small, with_replaced}
-use Rattle.templates.proofs.SwapLaws.{its, replaced_are, same_rows}
-use Rattle.templates.proofs.UpdateLaws.{made_small, made_there, put_back, with_quotas}
+use Rattle.fsrm_model.specs.objects.Thresholds.{are_too_many}
+use Rattle.fsrm_model.proofs.valid.TemplatesKept.{template_parts}
+use Rattle.fsrm_objects.specs.Tables.{has_short_texts}
+use Rattle.templates.proofs.PartLaws.{small_thresholds}
+use Rattle.templates.proofs.UpdateLaws.{at_end, at_start, lent_mut, long, next}
 use Rattle.templates.proofs.derived.update.Goals as goal
 
-pub swap_all-requires-clause-ascending : goal.swap_all-requires-clause-ascending
-swap_all-requires-clause-ascending c =
-    let quotas = c.args.objects.now.quotas in
-    let p = is_reached c.args.mode c.args.old.now in
-    ap (is_ascending folder_of) c.in_ok-quotas.ensures.made
-    ∙ ascending-map folder_of (as_template c.args.new.now) (λ r. refl) (filter p quotas) (ascending-filter folder_of p quotas c.updated_quotas.ensures.ascending)
+pub loop-place-init : goal.loop-place-init
+loop-place-init c =
+    let reached = filter (is_reached c.args.mode c.args.old.now) c.args.objects.now.quotas in
+    record {
+      half = at_start c.args.mode c.args.old.now c.args.new.now c.args.objects.now c.updated_quotas.ensures.ascending _ c.in_ok-quotas.ensures.made;
+      many = omega (arith, c.len-place-end.ensures, ap length c.in_ok-quotas.ensures.made, length-map reached (as_template c.args.new.now));
+    }
 
-pub swap_all-requires-clause-there : goal.swap_all-requires-clause-there
-swap_all-requires-clause-there c =
-    let quotas = c.args.objects.now.quotas in
-    ap (list_all (λ (row : QuotaRow). has_row folder_of row.folder quotas)) c.in_ok-quotas.ensures.made
-    ∙ made_there c.args.new.now (is_reached c.args.mode c.args.old.now) quotas c.updated_quotas.ensures.ascending
+pub unwrap-quota-requires : goal.unwrap-quota-requires
+unwrap-quota-requires c =
+    let within : c.loop-place.place < length c.loop-place.quotas = omega (arith, long _ _ _ _ _ _ c.loop-place.invariant.half, c.loop-place.invariant.many, c.loop-place-test.true) in
+    let f = there c.loop-place.quotas c.loop-place.place within in
+    lent_mut c.get_mut.result f.row (sym f.is ∙ sym c.get_mut.ensures.value)
 
-pub swap_all-requires-clause-small : goal.swap_all-requires-clause-small
-swap_all-requires-clause-small c =
-    ap (list_all is_small) c.in_ok-quotas.ensures.made ∙ made_small c.args.new.now c.requires.new (filter (is_reached c.args.mode c.args.old.now) c.args.objects.now.quotas)
+pub put_quota-requires : goal.put_quota-requires
+put_quota-requires c =
+    let quota = c.unwrap-quota.result.now in
+    let one = next _ _ _ _ _ _ c.loop-place.invariant.half quota (sym c.get_mut.ensures.value ∙ ap option_copied_mut c.unwrap-quota.ensures) in
+    let small = small_thresholds c.args.new.now.thresholds (template_parts c.args.new.now c.requires.new).thresholds in
+    record {
+      there = found_has folder_of quota.folder c.loop-place.objects.quotas one.was one.there;
+      short = ap (λ (row : QuotaRow). are_too_many row.thresholds) one.is ∙ small.0;
+      texts = ap has_short_texts one.is ∙ small.1;
+    }
+
+pub loop-place-preserved : goal.loop-place-preserved
+loop-place-preserved c =
+    let one = next _ _ _ _ _ _ c.loop-place.invariant.half c.unwrap-quota.result.now (sym c.get_mut.ensures.value ∙ ap option_copied_mut c.unwrap-quota.ensures) in
+    record { half = one.done _ _ c.put_quota.ensures.put c.put_quota.ensures.replaced; many = c.loop-place.invariant.many }
 
 pub returns-clause-ok : goal.returns-clause-ok
-returns-clause-ok c =
-    let tables = c.args.objects.now in
-    c.swap_all.ensures.put
-    ∙ ap (with_quotas tables)
-    (ap (λ (rows : List QuotaRow). fold with_replaced tables.quotas rows) c.in_ok-quotas.ensures.made
-    ∙ put_back c.args.mode c.args.old.now c.args.new.now tables.quotas c.updated_quotas.ensures.ascending)
+returns-clause-ok c = (at_end _ _ _ _ _ _ c.loop-place.invariant.half (omega (arith, c.loop-place.invariant.many, c.loop-place-test.false))).0
 
 pub returns-clause-reached : goal.returns-clause-reached
-returns-clause-reached c =
-    let quotas = c.args.objects.now.quotas in
-    let p = is_reached c.args.mode c.args.old.now in
-    same_rows _ (filter p quotas)
-    (c.swap_all.ensures.replaced
-    ∙ (ap (map (its quotas)) c.in_ok-quotas.ensures.made ∙ replaced_are c.args.new.now p quotas c.updated_quotas.ensures.ascending))
+returns-clause-reached c = (at_end _ _ _ _ _ _ c.loop-place.invariant.half (omega (arith, c.loop-place.invariant.many, c.loop-place-test.false))).1
