@@ -7,11 +7,11 @@ ghost use Rattle.fsrm_model.specs.values.Patterns.{is_object_name, is_pattern};
 ghost use Rattle.record_fields.specs.Formats.{tested, text as text_format};
 ghost use Rattle.record_codec.specs.Fields.{limit, percent, members, non_members, excluded_names};
 
-use file_groups::is_pattern;
 use fsrm_base::{List, Text};
 use fsrm_model::limits::{
     GREATEST_LIMIT, GREATEST_PERCENT, LEAST_LIMIT, MOST_EXCLUDED, MOST_PATTERNS,
 };
+use name_patterns::is_pattern;
 use name_rules::is_name;
 use record_fields::{
     Field, FieldFault, Flaw, Reader, put_short_list, put_text, put_u64, read_short_list,

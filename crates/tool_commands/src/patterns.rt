@@ -8,10 +8,10 @@ ghost use Rattle.fsrm_model.specs.values.Patterns.{is_pattern};
 ghost use Rattle.tool_commands.specs.LineFaults.{Reads};
 
 use crate::reading::LineFault;
-use file_groups::is_pattern;
 use fsrm_model::limits::MOST_PATTERNS;
 use fsrm_model::{List, NoMemory, Refusal, Text};
 use memchr::memchr_iter;
+use name_patterns::is_pattern;
 use std::alloc::Global;
 
 // Whether each part of a text between bars is a pattern.

@@ -1,0 +1,4 @@
+pub mod FoldLaws
+pub mod TailLaws
+pub mod StarLaws
+pub mod EndLaws
