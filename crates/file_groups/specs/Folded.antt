@@ -1,30 +1,13 @@
--- Matching a name by its folded characters.
-use Rattle.std.specs.Prelude.{ℕ, ◌==◌, ◌&&◌, ◌||◌, not, Bool, true, false, List, [], ◌∷◌, chars, if◌then◌else◌}
+-- Which names are in groups, by their folded characters.
+use Rattle.std.specs.Prelude.{ℕ, ◌&&◌, not, Bool, List}
 use Rattle.std.specs.List.{list_any}
-use Rattle.ucd_case.specs.CaseFolding.{simple_fold}
 use Rattle.fsrm_model.specs.declared.row.GroupRow.{GroupRow}
-use Rattle.fsrm_model.specs.values.Patterns.{meant, some_end}
+use Rattle.name_patterns.specs.Folded.{some_matches}
 
--- whether a character of a pattern stands for a folded one of a name
-abbrev pub stands_for_folded : ℕ → ℕ → Bool
-stands_for_folded p c = (p == 63) || (simple_fold p == c)
-
--- whether a name begins with a character that one of the pattern stands for, and its rest passes a test
-abbrev pub one_folded_then : ℕ → (List ℕ → Bool) → List ℕ → Bool
-one_folded_then p test [] = false
-one_folded_then p test (c ∷ cs) = stands_for_folded p c && test cs
-
--- whether a folded name matches
-abbrev pub matches_folded : List ℕ → List ℕ → Bool
-matches_folded [] [] = true
-matches_folded [] (c ∷ cs) = false
-matches_folded (p ∷ ps) cs = if p == 42 then some_end (matches_folded ps) cs else one_folded_then p (matches_folded ps) cs
-
--- whether it matches a pattern's text
-abbrev pub pattern_matches_folded : List ℕ → List ℕ → Bool
-pattern_matches_folded name pattern = matches_folded (chars (meant pattern)) name
-
--- whether it is in a group
+-- whether a folded name is in a group
 abbrev pub in_group_folded : GroupRow → List ℕ → Bool
-in_group_folded group name =
-    list_any (pattern_matches_folded name) group.members && not (list_any (pattern_matches_folded name) group.non_members)
+in_group_folded group name = some_matches group.members name && not (some_matches group.non_members name)
+
+-- whether it is in some group
+abbrev pub in_some_group : List GroupRow → List ℕ → Bool
+in_some_group groups name = list_any (λ group. in_group_folded group name) groups

@@ -1,5 +1,3 @@
 pub mod Folded
-pub mod Ends
-pub mod Heads
 pub mod Kept
 pub mod Faults

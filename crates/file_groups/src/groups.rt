@@ -1,22 +1,22 @@
 //! The table of file groups.
 
 ghost use Rattle.std.specs.Prelude.{◌≡◌, ℕ, ◌<◌, ◌≤◌, List as Items, IfOk, IfErr, IfSome, OnOk, OnErr, [], None, Some, true, false, is_none, length, slice_get};
+ghost use Rattle.std.specs.List.{list_any};
 ghost use Rattle.std.specs.Option.{option_copied};
-ghost use Rattle.fsrm_base.specs.Keyed.{row_of, has_row};
+ghost use Rattle.fsrm_base.specs.Keyed.{row_of, has_row, least_free};
+ghost use Rattle.fsrm_model.specs.values.Limits.{most_groups};
 ghost use Rattle.fsrm_model.specs.values.Name.{folded};
-ghost use Rattle.fsrm_model.specs.values.Patterns.{group_number, in_group_of, is_group, is_object_name, new_group, number_named, with_group, with_patterns, without_group};
+ghost use Rattle.fsrm_model.specs.values.Patterns.{group_number, has_name, in_group_of, is_group, is_object_name, new_group, number_named, with_group, with_patterns, without_group};
+ghost use Rattle.fsrm_model.specs.values.Texts.{group_bytes};
 ghost use Rattle.file_groups.specs.Faults.{IsFault, group_fault, new_fault, patterns_fault};
-ghost use Rattle.file_groups.specs.Kept.{AreGroups, AreMembers, AreNonMembers, group_texts};
+ghost use Rattle.file_groups.specs.Kept.{AreGroups, AreMembers, AreNonMembers, group_texts, most_group_bytes};
 
 use crate::answer::GroupFault;
-use crate::ends::may_end;
-use crate::folded::FoldedName;
-use crate::held::{ByNumber, HeldGroup};
-use crate::pattern::Pattern;
-use crate::{held, rows};
-use fsrm_base::places::{free_number, gap, search};
-use fsrm_model::limits::MOST_GROUPS;
-use fsrm_model::{GroupRow, List, NoMemory, Text};
+use crate::held::{HeldGroup, HeldGroups, Named, ends_of_groups};
+use crate::rows;
+use fsrm_model::{GroupRow, List, NoMemory};
+use name_patterns::{Ends, FoldedName, Pattern, Rest};
+use row_table::Table;
 use std::alloc::Global;
 use std::marker::Model;
 
@@ -25,11 +25,9 @@ use std::marker::Model;
 #[derive(Drop)]
 pub struct Groups {
     alloc: Global,
-    groups: Vec<HeldGroup>,
-    // The bytes of all names and patterns.
-    texts: u32,
+    groups: Table<HeldGroups>,
     // Each name that is in a group ends with one of these.
-    ends: u64,
+    ends: Ends,
 }
 
 impl Model for Groups {
@@ -39,9 +37,9 @@ impl Model for Groups {
 
     ghost Value = { Items GroupRow };
 
-    ghost view = { λ g. g.groups.items };
+    ghost view = { λ g. g.groups.rows };
 
-    ghost invariant = { λ g. IsTable g.groups.items g.texts g.ends };
+    ghost invariant = { λ g. IsTable g.groups.rows g.ends };
 }
 
 impl Groups {
@@ -51,9 +49,8 @@ impl Groups {
     {
         Groups {
             alloc,
-            groups: Vec::new(alloc),
-            texts: 0,
-            ends: 0,
+            groups: Table::new(alloc),
+            ends: Ends::none(),
         }
     }
 
@@ -83,13 +80,8 @@ impl Groups {
     {
         let left = rows::left_of_new(name, &members, &non_members, room.into());
         self.admit(name, left)?;
-        let row = GroupRow {
-            number: free_number::<ByNumber>(&self.groups),
-            name: Text::from_str(self.alloc, name)?,
-            members: rows::texts_from(self.alloc, &members)?,
-            non_members: rows::texts_from(self.alloc, &non_members)?,
-        };
-        let number = row.number;
+        let number = self.free_number();
+        let row = rows::new_group(self.alloc, number, name, &members, &non_members)?;
         self.insert(row)?;
         Ok(number)
     }
@@ -116,13 +108,15 @@ impl Groups {
     // are longer.
     fn admit(&self, name: &str, left: Option<u64>) -> Result<(), GroupFault>
         ensures may { OnOk result (new_fault self.now name.now (is_none left) ≡ None) }
+        ensures new { OnOk result (list_any (has_name name.now) self.now ≡ false) }
+        ensures few { OnOk result (length self.now < most_groups) }
         ensures refused { IfErr result (λ fault. new_fault self.now name.now (is_none left) ≡ Some fault) }
         ensures kept { AreGroups self.now }
     {
-        if held::find(&self.groups, name).is_some() {
+        if self.is_taken(name) {
             return Err(GroupFault::DuplicateName);
         }
-        if self.groups.len() >= MOST_GROUPS {
+        if self.groups.is_full() {
             return Err(GroupFault::TableFull);
         }
         if left.is_none() {
@@ -131,22 +125,38 @@ impl Groups {
         Ok(())
     }
 
+    // Whether a group has this name, in any spelling.
+    fn is_taken(&self, name: &str) -> bool
+        ensures taken { result ≡ list_any (has_name name.now) self.now }
+        ensures kept { AreGroups self.now }
+    {
+        self.groups.find(&Named { name }).is_some()
+    }
+
+    // The least number that is free, if there are fewer groups than there may be.
+    fn free_number(&self) -> u32
+        requires { length self.now < most_groups }
+        ensures number { result ≡ least_free group_number self.now }
+        ensures below { result < most_groups }
+        ensures free { has_row group_number result self.now ≡ false }
+    {
+        self.groups.free_number()
+    }
+
     // Puts a group that nothing refuses into its place.
     fn insert(&mut self, row: GroupRow) -> Result<(), NoMemory>
         requires valid { is_group row ≡ true }
         requires free { has_row group_number row.number self.old ≡ false }
-        requires admitted { new_fault self.old row.name false ≡ None }
+        requires new { list_any (has_name row.name) self.old ≡ false }
+        requires few { length self.old < most_groups }
         ensures ok { OnOk result (self.new ≡ with_group row self.old) }
         ensures err { OnErr result (self.new ≡ self.old) }
         ensures kept { AreGroups self.new }
     {
-        let place = gap::<ByNumber>(&self.groups, row.number);
-        let bytes = rows::texts_of(&row);
+        self.groups.reserve(self.groups.len() + 1)?;
         let group = HeldGroup::new(row);
-        let ends = group.ends();
-        self.groups.insert(place, group)?;
-        self.texts += bytes;
-        self.ends |= ends;
+        self.ends = self.ends.or(group.ends());
+        self.groups.insert(group);
         Ok(())
     }
 
@@ -170,17 +180,13 @@ impl Groups {
         ensures err { OnErr result (self.new ≡ self.old) }
         ensures kept { AreGroups self.new }
     {
-        let place = search::<ByNumber>(&self.groups, group).unwrap();
-        let old = self.groups[place].row();
-        let replaced = rows::texts_of(old);
-        let room = u64::from(room) + u64::from(replaced);
-        if rows::left_of_regrouped(old, members, non_members, room).is_none() {
+        let old = self.held(group).row();
+        if rows::outgrows(old, members, non_members, room) {
             return Err(GroupFault::TextsFull);
         }
         let row = rows::regrouped(self.alloc, old, members, non_members)?;
-        self.texts = self.texts - replaced + rows::texts_of(&row);
-        self.groups[place] = HeldGroup::new(row);
-        self.ends = held::ends_of_groups(&self.groups);
+        self.groups.swap(&mut HeldGroup::new(row));
+        self.ends = ends_of_groups(&self.groups);
         Ok(())
     }
 
@@ -190,10 +196,8 @@ impl Groups {
         ensures without { self.new ≡ without_group group self.old }
         ensures kept { AreGroups self.new }
     {
-        let place = search::<ByNumber>(&self.groups, group).unwrap();
-        self.texts -= rows::texts_of(self.groups[place].row());
-        self.groups.remove(place);
-        self.ends = held::ends_of_groups(&self.groups);
+        self.groups.remove(group);
+        self.ends = ends_of_groups(&self.groups);
     }
 
     /// The number of the group of this name, in any spelling.
@@ -201,7 +205,8 @@ impl Groups {
         ensures found { result ≡ number_named name.now self.now }
         ensures there { IfSome result (λ number. has_row group_number number self.now ≡ true) }
     {
-        held::find(&self.groups, name)
+        let group = self.groups.find(&Named { name })?;
+        Some(group.row().number)
     }
 
     /// Whether a name is in a group that is there: some member matches it, and no non-member does. It
@@ -210,8 +215,7 @@ impl Groups {
         requires { has_row group_number group self.now ≡ true }
         ensures { result ≡ in_group_of self.now group name.now }
     {
-        let place = search::<ByNumber>(&self.groups, group).unwrap();
-        self.groups[place].has(name)
+        self.has(group, name)
     }
 
     /// Whether a name that was folded once is in a group that is there. It takes no memory.
@@ -219,8 +223,14 @@ impl Groups {
         requires { has_row group_number group self.now ≡ true }
         ensures { (text : Items ℕ) → folded text ≡ name.now → result ≡ in_group_of self.now group text }
     {
-        let place = held::place_of(&self.groups, group);
-        self.groups[place].has(name.characters())
+        self.has(group, name.characters())
+    }
+
+    fn has<N: Rest>(&self, group: u32, name: N) -> bool
+        requires { has_row group_number group self.now ≡ true }
+        ensures { (text : Items ℕ) → folded text ≡ N.characters name → result ≡ in_group_of self.now group text }
+    {
+        self.held(group).has(name)
     }
 
     /// Whether a name may be in some group, told by its last character alone. One that may not is in none. It takes no
@@ -228,21 +238,21 @@ impl Groups {
     pub fn may_have(&self, name: &str) -> bool
         ensures { result ≡ false → (number : ℕ) → in_group_of self.now number name.now ≡ false }
     {
-        may_end(self.ends, name)
+        self.ends.may_have(name)
     }
 
     /// The bytes of all names and patterns.
     pub fn texts(&self) -> u32
         ensures { result ≡ group_texts self.now }
     {
-        self.texts
+        self.groups.texts()
     }
 
     /// How many groups there are, at most 1,024.
     pub fn count(&self) -> u32
         ensures { result ≡ length self.now }
     {
-        self.groups.len() as u32
+        self.groups.len()
     }
 
     /// The group at a place, from 0, in the order of the numbers.
@@ -250,7 +260,7 @@ impl Groups {
         requires { place < length self.now }
         ensures { slice_get self.now place ≡ Some result.now }
     {
-        self.groups[place as usize].row()
+        self.groups.at(place).row()
     }
 
     /// The group of a number that is there.
@@ -259,7 +269,16 @@ impl Groups {
         ensures group { row_of group_number number self.now ≡ Some result.now }
         ensures valid { is_group result.now ≡ true }
     {
-        let place = search::<ByNumber>(&self.groups, number).unwrap();
-        self.groups[place].row()
+        self.held(number).row()
+    }
+
+    // The same, as it is held.
+    fn held(&self, number: u32) -> &HeldGroup
+        requires { has_row group_number number self.now ≡ true }
+        ensures group { row_of group_number number self.now ≡ Some result.now }
+        ensures valid { is_group result.now ≡ true }
+        ensures small { group_bytes result.now ≤ most_group_bytes }
+    {
+        self.groups.get(number).unwrap()
     }
 }

@@ -1,18 +1,16 @@
 //! Groups as the table holds them.
 
-ghost use Rattle.std.specs.Prelude.{◌≡◌, true};
-ghost use Rattle.fsrm_base.specs.Keyed.{has_row, is_ascending};
-ghost use Rattle.fsrm_base.specs.Places.{IsAt};
-ghost use Rattle.fsrm_model.specs.values.Patterns.{group_number, number_named};
-ghost use Rattle.file_groups.specs.Ends.{Cover, in_some_group};
-ghost use Rattle.file_groups.specs.Folded.{in_group_folded};
+ghost use Rattle.std.specs.Prelude.{◌≡◌};
+ghost use Rattle.name_patterns.specs.Ends.{Cover};
+ghost use Rattle.file_groups.specs.Folded.{in_group_folded, in_some_group};
 
-use crate::ends::{ends_of, may_end};
-use crate::matching::Rest;
-use crate::rows::is_in;
-use fsrm_base::places::{Key, search};
+use crate::rows::{is_in, texts_of};
+use fsrm_base::places::Key;
 use fsrm_model::GroupRow;
+use fsrm_model::limits::MOST_GROUPS;
+use name_patterns::{Ends, Rest};
 use name_rules::same_name;
+use row_table::{Kind, Table, Test};
 use std::marker::Model;
 
 /// A group, with what the names in it end with: a look at its last character spares most names the patterns. Contracts
@@ -20,12 +18,12 @@ use std::marker::Model;
 #[derive(Drop)]
 pub struct HeldGroup {
     row: GroupRow,
-    ends: u64,
+    ends: Ends,
 }
 
 impl Model for HeldGroup {
     ghost use Rattle.fsrm_model.specs.declared.row.GroupRow.{GroupRow};
-    ghost use Rattle.file_groups.specs.Ends.{Cover};
+    ghost use Rattle.name_patterns.specs.Ends.{Cover};
     ghost use Rattle.file_groups.specs.Folded.{in_group_folded};
 
     ghost Value = { GroupRow };
@@ -40,7 +38,7 @@ impl HeldGroup {
     pub fn new(row: GroupRow) -> HeldGroup
         ensures { result ≡ row }
     {
-        let ends = ends_of(&row.members);
+        let ends = Ends::of(&row.members);
         HeldGroup { row, ends }
     }
 
@@ -53,7 +51,7 @@ impl HeldGroup {
     }
 
     /// The ends of the names that may be in it.
-    pub fn ends(&self) -> u64
+    pub fn ends(&self) -> Ends
         ensures { Cover result (in_group_folded self.now) }
     {
         self.ends
@@ -63,14 +61,14 @@ impl HeldGroup {
     pub fn has<N: Rest>(&self, name: N) -> bool
         ensures { result ≡ in_group_folded self.now (N.characters name) }
     {
-        may_end(self.ends, name) && is_in(&self.row, name)
+        self.ends.may_have(name) && is_in(&self.row, name)
     }
 }
 
-/// Groups by their numbers.
-pub struct ByNumber;
+/// Groups by their numbers, with their names and patterns.
+pub struct HeldGroups;
 
-impl Key for ByNumber {
+impl Key for HeldGroups {
     ghost use Rattle.fsrm_model.specs.values.Patterns.{group_number};
 
     type Row = HeldGroup;
@@ -82,37 +80,52 @@ impl Key for ByNumber {
     }
 }
 
-/// The place of the group of a number that is there. A new group takes the least number that is free, so mostly the
-/// number is the place.
-pub fn place_of(groups: &[HeldGroup], number: u32) -> usize
-    requires ascending { is_ascending group_number groups.now ≡ true }
-    requires there { has_row group_number number groups.now ≡ true }
-    ensures { IsAt group_number number groups.now result }
-{
-    let place = number as usize;
-    if place < groups.len() && groups[place].row().number == number {
-        return place;
+impl Kind for HeldGroups {
+    ghost use Rattle.std.proofs.Common.{rules};
+    ghost use Rattle.fsrm_model.specs.values.Limits.{most_groups};
+    ghost use Rattle.fsrm_model.specs.values.Texts.{group_bytes};
+    ghost use Rattle.file_groups.specs.Kept.{most_group_bytes};
+
+    ghost bytes = { group_bytes };
+
+    ghost most_bytes = { most_group_bytes };
+
+    ghost MOST = { most_groups };
+
+    const MOST: u32 = MOST_GROUPS as u32;
+
+    fn texts(group: &HeldGroup) -> u32 {
+        texts_of(group.row())
     }
-    search::<ByNumber>(groups, number).unwrap()
+
+    ghost few = { Prim.search rules };
+
+    ghost fits = { Prim.search rules };
 }
 
-/// The number of the first group of a name, in any spelling.
-pub fn find(groups: &[HeldGroup], name: &str) -> Option<u32>
-    ensures { result ≡ number_named name.now groups.now }
-{
-    groups
-        .iter()
-        .find(|group| same_name(group.row().name.as_str(), name))
-        .map(|group| group.row().number)
+/// Whether a group has a name, in any spelling.
+#[derive(Clone, Copy)]
+pub struct Named<'a> {
+    pub name: &'a str,
+}
+
+impl<'a> Test<HeldGroup> for Named<'a> {
+    ghost use Rattle.fsrm_model.specs.values.Patterns.{has_name};
+
+    ghost passes = { λ it group. has_name it.name.now group };
+
+    fn test(&self, group: &HeldGroup) -> bool {
+        same_name(group.row().name.as_str(), self.name)
+    }
 }
 
 /// The ends of the names that may be in some group.
-pub fn ends_of_groups(groups: &[HeldGroup]) -> u64
-    ensures { Cover result (in_some_group groups.now) }
+pub fn ends_of_groups(groups: &Table<HeldGroups>) -> Ends
+    ensures { Cover result (in_some_group groups.now.rows) }
 {
-    let mut ends = 0;
-    for group in groups {
-        ends |= group.ends();
+    let mut ends = Ends::none();
+    for place in 0..groups.len() {
+        ends = ends.or(groups.at(place).ends());
     }
     ends
 }

@@ -1,17 +1,17 @@
 //! Rows of groups: what is in them, what they take, and how they are made.
 
-ghost use Rattle.std.specs.Prelude.{◌≡◌, ◌+◌, ◌<◌, ◌^◌, true, length, IfOk, IfSome, MatchOption, unwrap_or};
-ghost use Rattle.std.specs.List.{list_all, list_any};
+ghost use Rattle.std.specs.Prelude.{◌≡◌, ◌+◌, ◌<◌, ◌^◌, nat_lt, true, length, IfOk, IfSome, MatchOption, unwrap_or};
+ghost use Rattle.std.specs.List.{list_all};
 ghost use Rattle.std.specs.Option.{option_copied};
-ghost use Rattle.fsrm_model.specs.values.Patterns.{is_group, is_pattern, regrouped};
+ghost use Rattle.fsrm_model.specs.values.Limits.{most_groups};
+ghost use Rattle.fsrm_model.specs.values.Patterns.{is_group, is_object_name, is_pattern, regrouped};
 ghost use Rattle.fsrm_model.specs.values.Texts.{group_bytes, texts_bytes};
-ghost use Rattle.file_groups.specs.Folded.{in_group_folded, pattern_matches_folded};
+ghost use Rattle.file_groups.specs.Folded.{in_group_folded};
 ghost use Rattle.file_groups.specs.Kept.{AreMembers, AreNonMembers};
 
-use crate::matching::{Rest, matches};
-use crate::pattern::Pattern;
 use fsrm_base::room::{left_of_text, left_of_texts};
 use fsrm_model::{Duplicate, GroupRow, List, NoMemory, Text};
+use name_patterns::{Pattern, Rest, some_matches};
 use std::alloc::Global;
 
 /// Whether a name is in a group.
@@ -19,15 +19,6 @@ pub fn is_in<N: Rest>(group: &GroupRow, name: N) -> bool
     ensures { result ≡ in_group_folded group.now (N.characters name) }
 {
     some_matches(&group.members, name) && !some_matches(&group.non_members, name)
-}
-
-fn some_matches<N: Rest>(patterns: &List<Text>, name: N) -> bool
-    ensures { result ≡ list_any (pattern_matches_folded (N.characters name)) patterns.now }
-{
-    patterns
-        .as_slice()
-        .iter()
-        .any(|pattern| matches(pattern.as_str(), name))
 }
 
 /// The bytes of a group's texts, which fit.
@@ -61,6 +52,21 @@ pub fn left_of_regrouped(
     let left = left_of_text(group.name.as_str(), room)?;
     let left = left_of_either(members, &group.members, left)?;
     left_of_either(non_members, &group.non_members, left)
+}
+
+/// Whether a group's texts with other members, other non-members, or both are longer than the room together with the
+/// texts that are there, which fit.
+pub fn outgrows(
+    group: &GroupRow,
+    members: Option<&List<Pattern>>,
+    non_members: Option<&List<Pattern>>,
+    room: u32,
+) -> bool
+    requires { group_bytes group.now < 2 ^ 32 }
+    ensures { result ≡ nat_lt (room + group_bytes group.now) (group_bytes (regrouped (option_copied members.entry) (option_copied non_members.entry) group.now)) }
+{
+    let room = u64::from(room) + u64::from(texts_of(group));
+    left_of_regrouped(group, members, non_members, room).is_none()
 }
 
 /// How much room the texts of a new group leave.
@@ -99,6 +105,29 @@ pub fn texts_from(alloc: Global, patterns: &List<Pattern>) -> Result<List<Text>,
         texts.push(Text::from_str(alloc, pattern.as_str())?)?;
     }
     Ok(texts)
+}
+
+/// A group of these values.
+pub fn new_group(
+    alloc: Global,
+    number: u32,
+    name: &str,
+    members: &List<Pattern>,
+    non_members: &List<Pattern>,
+) -> Result<GroupRow, NoMemory>
+    requires below { number < most_groups }
+    requires named { is_object_name name.now ≡ true }
+    requires members { AreMembers members.now }
+    requires non_members { AreNonMembers non_members.now }
+    ensures row { IfOk result (λ row. row ≡ record { number = number; name = name.now; members = members.now; non_members = non_members.now }) }
+    ensures valid { IfOk result (λ row. is_group row ≡ true) }
+{
+    Ok(GroupRow {
+        number,
+        name: Text::from_str(alloc, name)?,
+        members: texts_from(alloc, members)?,
+        non_members: texts_from(alloc, non_members)?,
+    })
 }
 
 /// A group with other members, other non-members, or both.

@@ -13,9 +13,10 @@ ghost use Rattle.file_screens.specs.Blocked.{are_known, screened_rows, told};
 ghost use Rattle.file_screens.specs.Way.{ApplyAlike, NoneApply, is_active, is_asked, judging_on, lets_pass, screen_with};
 
 use crate::answer::Blocked;
-use file_groups::{FoldedName, Groups};
+use file_groups::Groups;
 use fsrm_model::{Ledger, List, Steps};
 use fsrm_objects::Objects;
+use name_patterns::FoldedName;
 use volume_tree::{Tree, WayUp};
 
 // Whether a name is in one of the groups of these numbers.

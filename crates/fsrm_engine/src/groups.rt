@@ -15,11 +15,11 @@ ghost use Rattle.fsrm_engine.specs.Memory.{may_want_memory};
 
 use crate::exits::{listing, refused, refused_by_groups};
 use crate::parts::Parts;
-use file_groups::Pattern;
 use fsrm_model::{
     Answer, Ask, FilegroupChange, FilegroupDeed, List, NewFilegroup, NoMemory, Refusal, Text,
 };
 use fsrm_objects::Objects;
+use name_patterns::Pattern;
 use std::alloc::Global;
 
 // The pattern that a text is.

@@ -3,8 +3,9 @@
 ghost use Rattle.std.specs.Prelude.{◌≡◌, ◌∷◌, [], IfOk};
 
 use crate::values::one;
-use file_groups::{Groups, Pattern};
+use file_groups::Groups;
 use fsrm_model::{GroupRow, List, Text};
+use name_patterns::Pattern;
 use name_rules::NameFault;
 use std::alloc::Global;
 use std::test::Fail;

@@ -1,15 +1,16 @@
-use Rattle.std.proofs.Common.{List, ℕ, Option, ◌≡◌, true, refl, sym, ◌∙◌, ap, subst}
-use Rattle.std.specs.Prelude.{IfSome, find}
-use Rattle.fsrm_model.specs.declared.row.GroupRow.{GroupRow}
+use Rattle.std.proofs.Common.{sym, ◌∙◌, ap}
+use Rattle.std.specs.Option.{option_copied}
 use Rattle.fsrm_base.specs.Keyed.{has_row}
-use Rattle.fsrm_model.specs.values.Patterns.{group_number, has_name, number_named}
-use Rattle.file_groups.proofs.GroupLaws.{found_there}
+use Rattle.fsrm_base.proofs.Look.{found_has, found_own}
+use Rattle.fsrm_model.specs.declared.row.GroupRow.{GroupRow}
+use Rattle.fsrm_model.specs.values.Patterns.{group_number, has_name}
 use Rattle.file_groups.proofs.groups.Groups.find.Goals as goal
 
 pub returns-clause-there : goal.returns-clause-there
 returns-clause-there c =
-    let groups = c.self.inside.groups.items in
-    let is = c.find.ensures ∙ ap (λ (rows : List GroupRow). number_named c.args.name.now rows) c.deref.ensures.value in
-    subst (λ (rows : List GroupRow). IfSome c.find.result (λ n. has_row group_number n rows ≡ true)) c.self.view_is
-    (subst (λ (o : Option ℕ). IfSome o (λ n. has_row group_number n groups ≡ true)) (sym is)
-    (found_there c.args.name.now groups (find (has_name c.args.name.now) groups) c.self.invariant.are.ascending refl))
+    let rows = c.self.inside.groups.rows in
+    let group = c.in_ok-group.group.now in
+    ap (has_row group_number c.row.result.now.number) (sym c.self.view_is)
+    ∙ (ap (λ (g : GroupRow). has_row group_number g.number rows) c.row.ensures
+    ∙ found_has group_number group.number rows group
+    (found_own group_number (has_name c.args.name.now) rows group c.find.ensures.kept.ascending (sym c.find.ensures.row ∙ ap option_copied c.in_ok-group.was)))

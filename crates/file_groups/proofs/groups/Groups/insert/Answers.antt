@@ -1,52 +1,32 @@
-use Rattle.std.proofs.Common.{List, insert, false, ◌+◌, ◌≤◌, sym, ◌∙◌, ap, subst, arith}
-use Rattle.std.specs.Prelude.{bit_or}
+use Rattle.std.proofs.Common.{List, ◌≡◌, ◌≤◌, ◌++◌, ◌∷◌, [], length, ◌∙◌, ap, arith, subst}
+use Rattle.std.specs.List.{list_any}
+use Rattle.fsrm_base.specs.Keyed.{has_row, with_row}
+use Rattle.fsrm_base.proofs.Order.{length-with_row}
 use Rattle.fsrm_model.specs.declared.row.GroupRow.{GroupRow}
-use Rattle.fsrm_model.specs.values.Patterns.{group_number, with_group}
-use Rattle.fsrm_model.specs.values.Texts.{group_bytes}
-use Rattle.file_groups.specs.Ends.{Cover, in_some_group}
-use Rattle.file_groups.specs.Folded.{in_group_folded}
-use Rattle.file_groups.specs.Kept.{IsTable}
-use Rattle.fsrm_base.specs.Places.{IsGap}
-use Rattle.file_groups.proofs.EndLaws.{with_covered}
-use Rattle.file_groups.proofs.FaultLaws.{Admitted, admitted}
-use Rattle.file_groups.proofs.GroupLaws.{more_are, more_texts}
-use Rattle.file_groups.proofs.PartLaws.{group_small, texts_most}
-use Rattle.fsrm_base.proofs.SortedRows.{insert_row}
+use Rattle.fsrm_model.specs.values.Limits.{most_groups}
+use Rattle.fsrm_model.specs.values.Patterns.{group_name, group_number, has_name, is_group}
+use Rattle.fsrm_model.proofs.valid.NamesApart.{named-new}
+use Rattle.name_patterns.specs.Ends.{Cover}
+use Rattle.file_groups.specs.Folded.{in_group_folded, in_some_group}
+use Rattle.file_groups.proofs.GroupLaws.{some_new}
+use Rattle.file_groups.proofs.PartLaws.{group_small}
 use Rattle.file_groups.proofs.groups.Groups.insert.Goals as goal
 
-pub texts_of-bytes-requires : goal.texts_of-bytes-requires
-texts_of-bytes-requires c = let its : group_bytes c.args.row ≤ 32895 = group_small c.args.row c.requires.valid in omega arith
-
-pub overflow_add-self : goal.overflow_add-self
-overflow_add-self c =
-    let groups = c.self.inside.groups.items in
-    let may : Admitted groups c.args.row.name = subst (λ (rows : List GroupRow). Admitted rows c.args.row.name) (sym c.self.view_is) (admitted c.args.self.now c.args.row.name false c.requires.admitted) in
-    let its : group_bytes c.args.row ≤ 32895 = group_small c.args.row c.requires.valid in
-    omega (arith, its, may.few, texts_most groups c.self.invariant.are, c.self.invariant.texts_are, c.texts_of-bytes.ensures)
+pub insert-requires-clause-small : goal.insert-requires-clause-small
+insert-requires-clause-small c = rw c.new-group.ensures (group_small c.args.row c.requires.valid)
 
 pub invariant_of-self-2 : goal.invariant_of-self-2
 invariant_of-self-2 c =
-    let groups = c.self.inside.groups.items in
-    let place = c.gap-place.result in
-    let gap = subst (λ (rows : List GroupRow). IsGap group_number c.args.row.number rows place) c.deref.ensures.value c.gap-place.ensures in
-    let may : Admitted groups c.args.row.name = subst (λ (rows : List GroupRow). Admitted rows c.args.row.name) (sym c.self.view_is) (admitted c.args.self.now c.args.row.name false c.requires.admitted) in
-    let bits = c.ends-ends.result in
-    let ends = bit_or c.self.inside.ends bits in
-    subst (λ (rows : List GroupRow). IsTable rows (c.self.inside.texts + c.texts_of-bytes.result) ends) (sym (c.in_ok-insert.ensures.items ∙ ap (insert groups place) c.new-group.ensures))
-    (record {
-      are = more_are groups c.args.row place c.self.invariant.are gap may.few c.requires.valid may.new;
-      texts_are = more_texts groups c.args.row place c.self.inside.texts c.texts_of-bytes.result gap c.self.invariant.texts_are c.texts_of-bytes.ensures;
-      ends_cover = subst (λ (rows : List GroupRow). Cover ends (in_some_group rows)) (sym (insert_row group_number c.args.row groups place gap))
-          (with_covered c.self.inside.ends bits c.args.row groups c.self.invariant.ends_cover
-          (subst (λ (group : GroupRow). Cover bits (in_group_folded group)) c.new-group.ensures c.ends-ends.ensures));
+    let rows = c.self.inside.groups.rows in
+    let row = c.args.row in
+    let free = ap (has_row group_number row.number) c.self.view_is ∙ c.requires.free in
+    let new = ap (list_any (has_name row.name)) c.self.view_is ∙ c.requires.new in
+    let few : length (with_row group_number row rows) ≤ most_groups = omega (arith, length-with_row group_number row rows, ap (λ (groups : List GroupRow). length groups) c.self.view_is, c.requires.few) in
+    rw (c.insert.ensures, c.in_ok-reserve.ensures.ok, c.new-group.ensures) (record {
+      are = named-new group_number group_name most_groups is_group row rows c.self.invariant.are free new few c.requires.valid;
+      ends_cover = λ cs character is.
+          c.or-self-inside.ensures (in_some_group rows) (in_group_folded row) c.self.invariant.ends_cover (subst (λ (group : GroupRow). Cover c.ends.result (in_group_folded group)) c.new-group.ensures c.ends.ensures) cs character (some_new row rows (cs ++ character ∷ []) is);
     })
-
-pub returns-clause-ok : goal.returns-clause-ok
-returns-clause-ok c =
-    let groups = c.self.inside.groups.items in
-    let place = c.gap-place.result in
-    let gap = subst (λ (rows : List GroupRow). IsGap group_number c.args.row.number rows place) c.deref.ensures.value c.gap-place.ensures in
-    c.in_ok-insert.ensures.items ∙ (ap (insert groups place) c.new-group.ensures ∙ (insert_row group_number c.args.row groups place gap ∙ ap (with_group c.args.row) c.self.view_is))
 
 pub returns-clause-kept : goal.returns-clause-kept
 returns-clause-kept c = (invariant_of-self-2 c).are
