@@ -1,10 +1,9 @@
 //! What file operations do to counters and peaks: which quotas cross a threshold then, and what a quota refuses.
 
-ghost use Rattle.std.specs.Prelude.{◌≡◌, ◌+◌, ◌*◌, ◌<◌, ◌≤◌, ◌==◌, ◌&&◌, true, map, length, if◌then◌else◌};
-ghost use Rattle.fsrm_base.specs.Numbers.{with_number};
-ghost use Rattle.fsrm_base.specs.Keyed.{has_row, is_ascending, with_change};
-ghost use Rattle.fsrm_base.specs.Places.{IsAt};
+ghost use Rattle.std.specs.Prelude.{◌≡◌, ◌+◌, ◌*◌, ◌<◌, ◌≤◌, ◌==◌, ◌&&◌, Bool, Some, true, map, length, if◌then◌else◌};
+ghost use Rattle.fsrm_base.specs.Keyed.{has_row, is_ascending, row_of, with_change};
 ghost use Rattle.fsrm_model.specs.values.Limits.{most_entries, most_quotas};
+ghost use Rattle.fsrm_model.specs.declared.row.QuotaRow.{QuotaRow};
 ghost use Rattle.fsrm_model.specs.objects.Quota.{folder_of};
 ghost use Rattle.fsrm_model.specs.nodes.Tree.{number as key, chain, is_under};
 ghost use Rattle.fsrm_model.specs.store.Valid.{IsVolume};
@@ -27,13 +26,14 @@ use quota_usage::{Change, Exceeded, Usage};
 use thresholds::crosses_any;
 use volume_tree::Tree;
 
-// Raises the peak of a folder's quota, which is found at a place, to what is used, if that is more.
-fn raise_to(objects: &mut Objects, folder: u32, place: u32, used: u64, moment: u64)
+// Raises the peak of a folder's quota, which is this one, to what is used, if that is more.
+fn raise_to(objects: &mut Objects, folder: u32, peak: u64, used: u64, moment: u64)
     requires ascending { is_ascending folder_of objects.old.quotas ≡ true }
-    requires at { IsAt folder_of folder objects.old.quotas place }
+    requires there { has_row folder_of folder objects.old.quotas ≡ true }
+    requires peak { (quota : QuotaRow) → row_of folder_of folder objects.old.quotas ≡ Some quota → quota.peak ≡ peak }
     ensures { objects.new ≡ record objects.old { quotas = with_change folder_of folder (raised_to used moment) objects.old.quotas } }
 {
-    if objects.quota_at(place).peak < used {
+    if peak < used {
         objects.set_peak(folder, used, moment);
     }
 }
@@ -46,10 +46,11 @@ pub fn raise_peak(usage: &Usage, objects: &mut Objects, folder: u32, moment: u64
     let Some(used) = usage.used(folder) else {
         return;
     };
-    let Some(place) = objects.quota_place(folder) else {
+    let Some(quota) = objects.quota(folder) else {
         return;
     };
-    raise_to(objects, folder, place, used, moment);
+    let peak = quota.peak;
+    raise_to(objects, folder, peak, used, moment);
 }
 
 /// What was used before `minus` bytes were taken, and then `plus` were given.
@@ -69,14 +70,19 @@ fn lost_by(change: &Change, to: u32) -> u64
     }
 }
 
-// Notes a quota's place if it crosses a threshold.
-fn note_if(crossing: &mut NumberSet, place: u32, crosses: bool)
-    requires { place < crossing.old.bound }
-    ensures { crossing.new ≡ (if crosses then record crossing.old { members = with_number place crossing.old.members } else crossing.old) }
+// Notes a folder's quota if it crosses a threshold. Its place is sought by halves, so only then.
+fn note_if(objects: &Objects, crossing: &mut NumberSet, folder: u32, crosses: bool)
+    requires ascending { is_ascending folder_of objects.now.quotas ≡ true }
+    requires bound { crossing.old.bound ≡ most_quotas }
+    ensures { (passes : QuotaRow → Bool) → ((quota : QuotaRow) → row_of folder_of folder objects.now.quotas ≡ Some quota → passes quota ≡ crosses) → Notes crossing.old crossing.new objects.now.quotas (λ quota. (quota.folder == folder) && passes quota) }
 {
-    if crosses {
-        crossing.insert(place);
+    if !crosses {
+        return;
     }
+    let Some(place) = objects.quota_place(folder) else {
+        return;
+    };
+    crossing.insert(place);
 }
 
 // Raises the peak of a folder's quota to what is used, if that is more, and notes the quota's place if it crosses a
@@ -99,13 +105,14 @@ fn gain(
     let Some(now) = usage.used(folder) else {
         return;
     };
-    let Some(place) = objects.quota_place(folder) else {
+    let Some(quota) = objects.quota(folder) else {
         return;
     };
+    let peak = quota.peak;
     let before = used_before(minus, plus, now);
-    let crosses = crosses_any(objects.quota_at(place), before, now);
-    note_if(crossing, place, crosses);
-    raise_to(objects, folder, place, now, moment);
+    let crosses = crosses_any(quota, before, now);
+    note_if(objects, crossing, folder, crosses);
+    raise_to(objects, folder, peak, now, moment);
 }
 
 // The same of a folder and each above it.
