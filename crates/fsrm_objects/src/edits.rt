@@ -12,11 +12,15 @@ pub(crate) struct Peak {
 }
 
 impl Edit<QuotaRow> for Peak {
+    type Told = ();
+
     ghost use Rattle.fsrm_objects.specs.Tables.{peaked_at};
 
     ghost may = { λ peak quota. Unit {0} };
 
     ghost edited = { λ peak quota. peaked_at peak.bytes peak.moment quota };
+
+    ghost told = { λ peak quota. tt };
 
     fn edit(&self, row: &mut QuotaRow) {
         row.peak = self.bytes;
@@ -31,11 +35,15 @@ pub(crate) struct State {
 }
 
 impl Edit<QuotaRow> for State {
+    type Told = ();
+
     ghost use Rattle.fsrm_model.specs.objects.QuotaStates.{in_state};
 
     ghost may = { λ new quota. Unit {0} };
 
     ghost edited = { λ new quota. in_state new.state quota };
+
+    ghost told = { λ new quota. tt };
 
     fn edit(&self, row: &mut QuotaRow) {
         row.state = self.state;
@@ -49,11 +57,15 @@ pub(crate) struct Source {
 }
 
 impl Edit<QuotaRow> for Source {
+    type Told = ();
+
     ghost use Rattle.fsrm_model.specs.objects.Templates.{without_source};
 
     ghost may = { λ source quota. Unit {0} };
 
     ghost edited = { λ source quota. without_source source.template quota };
+
+    ghost told = { λ source quota. tt };
 
     fn edit(&self, row: &mut QuotaRow) {
         if row.template == Some(self.template) {
@@ -71,12 +83,16 @@ pub(crate) struct QuotaRun {
 }
 
 impl Edit<QuotaRow> for QuotaRun {
+    type Told = ();
+
     ghost use Rattle.fsrm_objects.specs.Runs.{HasRun};
     ghost use Rattle.fsrm_objects.specs.Tables.{run_quota_at};
 
     ghost may = { λ run quota. HasRun run.percent run.place quota };
 
     ghost edited = { λ run quota. run_quota_at run.moment run.percent run.place quota };
+
+    ghost told = { λ run quota. tt };
 
     fn edit(&self, row: &mut QuotaRow) {
         note_run(&mut row.thresholds, self.percent, self.place, self.moment);
@@ -91,12 +107,16 @@ pub(crate) struct ScreenRun {
 }
 
 impl Edit<ScreenRow> for ScreenRun {
+    type Told = ();
+
     ghost use Rattle.std.specs.Prelude.{◌<◌, length};
     ghost use Rattle.fsrm_objects.specs.Tables.{run_screen_at};
 
     ghost may = { λ run screen. run.place < length screen.actions };
 
     ghost edited = { λ run screen. run_screen_at run.moment run.place screen };
+
+    ghost told = { λ run screen. tt };
 
     fn edit(&self, row: &mut ScreenRow) {
         note_last(&mut row.actions, self.place, self.moment);

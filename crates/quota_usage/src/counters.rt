@@ -41,7 +41,7 @@ impl Kind for Counters {
     ghost fits = { Prim.search rules };
 }
 
-/// Bytes that a counter loses, as many as it has at most, and then gets.
+/// Bytes that a counter loses, as many as it has at most, and then gets. It tells how many the counter has then.
 #[derive(Clone, Copy)]
 pub(crate) struct Amendment {
     pub minus: u64,
@@ -49,6 +49,8 @@ pub(crate) struct Amendment {
 }
 
 impl Edit<Counter> for Amendment {
+    type Told = u64;
+
     ghost use Rattle.std.specs.Prelude.{◌<◌, ◌^◌};
     ghost use Rattle.quota_usage.specs.Climb.{amended, amended_counter};
 
@@ -56,7 +58,10 @@ impl Edit<Counter> for Amendment {
 
     ghost edited = { λ it counter. amended_counter it.minus it.plus counter };
 
-    fn edit(&self, row: &mut Counter) {
+    ghost told = { λ it counter. amended it.minus it.plus counter.bytes };
+
+    fn edit(&self, row: &mut Counter) -> u64 {
         row.bytes = row.bytes.saturating_sub(self.minus) + self.plus;
+        row.bytes
     }
 }

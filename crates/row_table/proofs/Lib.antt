@@ -1,4 +1,5 @@
 pub mod HeldLaws
 pub mod IndexLaws
+pub mod OrderLaws
 pub mod PoolLaws
 pub mod TableLaws

@@ -1,6 +1,6 @@
 -- What a table answers, and what it keeps if a row comes, goes or is another.
 use Rattle.std.proofs.Common.{◌≡◌, ℕ, zero, suc, ◌+◌, ◌-◌, ◌*◌, ◌<◌, ◌≤◌, ◌==◌, nat_le, nat_lt, Bool, true, false, cond, ◌&&◌, ◌||◌, List, [], ◌∷◌, length, map, Option, Some, None, inl, inr, refl, sym, ◌∙◌, ap, subst, arith}
-use Rattle.std.proofs.lemmas.List.{length-map}
+use Rattle.std.proofs.lemmas.List.{get_or_past, length-map}
 use Rattle.std.proofs.lemmas.List.Folds.{list_all-map}
 use Rattle.std.proofs.lemmas.Nat.{mul-le}
 use Rattle.std.proofs.lemmas.Option.{none-some, same_Some, slice_get-map}
@@ -22,7 +22,7 @@ use Rattle.fsrm_base.proofs.Sums.{sum_by-map, sum_by-ones, sum_by_each, sum_by_w
 use Rattle.fsrm_base.proofs.TestLaws.{clash, eq_is, eq_same, eq_test, is_or_not, le_is, le_test}
 use Rattle.row_table.specs.declared.index.Entry.{Entry}
 use Rattle.row_table.specs.Held.{Held, Keeps}
-use Rattle.row_table.specs.Indexed.{Indexed, number_of, slot_in, slot_of}
+use Rattle.row_table.specs.Indexed.{Indexed, noted, number_of, slot_in, slot_of}
 use Rattle.row_table.specs.Pooled.{Pooled, Puts, in_slot}
 use Rattle.row_table.specs.Slotted.{IsTable, held_in, rows_of}
 use Rattle.row_table.proofs.HeldLaws.{held_of, less_length, none_found, same_key}
@@ -97,6 +97,28 @@ module _ {X : Type 0} {key bytes : X → ℕ} {most most_bytes : ℕ} where
 
     pub is_full : (n slot : ℕ) → slot_in index.entries n ≡ Some slot → IsSome (in_slot pool.slots slot)
     is_full n slot h = ap is_some (row_in_slot n slot h) ∙ (sym (some_of n) ∙ ap is_some h)
+
+    -- by the note of a number, which is a slot only if the number is there
+    slot_noted : (n : ℕ) (o : Option Entry) → row_of number_of n index.entries ≡ o → length pool.slots < 65536 → in_slot pool.slots (noted o) ≡ row_of key n value.rows
+    slot_noted n None h few = get_or_past pool.slots 65535 None (omega (arith, few)) ∙ no_row n (ap (option_map slot_of) h)
+    slot_noted n (Some e) h few = row_in_slot n e.slot (ap (option_map slot_of) h)
+
+    pub row_noted : (n note : ℕ) → note ≡ noted (row_of number_of n index.entries) → length pool.slots < 65536 → in_slot pool.slots note ≡ row_of key n value.rows
+    row_noted n note is few = ap (in_slot pool.slots) is ∙ slot_noted n (row_of number_of n index.entries) refl few
+
+    row_below : (n : ℕ) (o : Option Entry) → row_of number_of n index.entries ≡ o → noted o < 65535 → in_slot pool.slots (noted o) ≡ row_of key n value.rows
+    row_below n None h below = absurd (omega (arith, below))
+    row_below n (Some e) h below = row_in_slot n e.slot (ap (option_map slot_of) h)
+
+    pub row_of_slot : (n note : ℕ) → note ≡ noted (row_of number_of n index.entries) → note < 65535 → in_slot pool.slots note ≡ row_of key n value.rows
+    row_of_slot n note is below = ap (in_slot pool.slots) is ∙ row_below n (row_of number_of n index.entries) refl (omega (arith, is, below))
+
+    own_slot : (n : ℕ) (o : Option Entry) → row_of number_of n index.entries ≡ o → IsSome (slot_in index.entries n) → slot_in index.entries n ≡ Some (noted o)
+    own_slot n None h some = absurd (clash (is_some (slot_in index.entries n)) some (ap is_some (ap (option_map slot_of) h)))
+    own_slot n (Some e) h some = ap (option_map slot_of) h
+
+    pub slot_there : (n note : ℕ) → note ≡ noted (row_of number_of n index.entries) → has_row key n value.rows ≡ true → slot_in index.entries n ≡ Some note
+    slot_there n note is there = own_slot n (row_of number_of n index.entries) refl (has_slot n there) ∙ ap Some (sym is)
 
     -- the slots of the entries have the rows, in their order
     listed : map (λ e. in_slot pool.slots e.slot) index.entries ≡ map Some value.rows
@@ -249,6 +271,21 @@ module _ {X : Type 0} {key bytes : X → ℕ} {most most_bytes : ℕ} where
         let put_row : Puts pool.slots new.slots slot (Some (c f.row)) = subst (λ (o : Option X). Puts pool.slots new.slots slot (option_map c o)) f.is put in
         subst (λ t. IsTable key bytes most most_bytes index new t (record value { rows = with_change key n c value.rows })) still
         (table_with n slot f.row c new at f.is (λ r is. keeps.number r ∙ is) (λ r is. omega (arith, keeps.texts r, is)) put_row held same)
+
+    -- the same by the note of a number, which may not be there
+    pub table_noted : (n note : ℕ) (c : X → X) (new : Pooled X) → note ≡ noted (row_of number_of n index.entries) → length pool.slots < 65536 → Keeps key bytes c → Puts pool.slots new.slots note (option_map c (in_slot pool.slots note)) → new.held ≡ pool.held → new.room ≡ pool.room → IsTable key bytes most most_bytes index new texts (record value { rows = with_change key n c value.rows })
+    table_noted n note c new is few keeps put held same =
+        elim (is_or_not (has_row key n value.rows)) [
+          | inl there ↦ table_changed n note c new (slot_there n note is there) keeps put held same
+          | inr absent ↦
+              let none = none_found key value.rows n absent in
+              let no_slot : slot_in index.entries n ≡ None = ap (option_map slot_of) (none_found number_of index.entries n (has_number n ∙ absent)) in
+              let vacant : in_slot pool.slots note ≡ None = row_noted n note is few ∙ none in
+              let kept : Puts pool.slots new.slots note None = subst (λ (o : Option X). Puts pool.slots new.slots note (option_map c o)) vacant put in
+              subst (IsTable key bytes most most_bytes index new texts) (no_change n c no_slot)
+              (table_edited new n note None kept (λ r was. absurd (none-some r (sym vacant ∙ was))) same index.entries value.rows texts
+              (λ m other. refl) (λ m other. refl) no_slot none table.ascending table.held.ascending table.held.small table.held.few table.texts_are (held ∙ table.counted))
+        ]
 
     -- each row changed where it stands
     pub table_mapped : (c : X → X) → Keeps key bytes c → IsTable key bytes most most_bytes index (record pool { slots = map (option_map c) pool.slots }) texts (record value { rows = map c value.rows })

@@ -1,5 +1,5 @@
 -- Which number has which slot.
-use Rattle.std.specs.Prelude.{◌≡◌, ℕ, ◌+◌, ◌<◌, ◌≤◌, nat_lt, true, List, length, slice_index, Option, Some, None, option_map}
+use Rattle.std.specs.Prelude.{◌≡◌, ℕ, ◌<◌, ◌≤◌, nat_lt, true, List, length, slice_index_or, Option, Some, None, option_map}
 use Rattle.std.specs.List.{list_all}
 use Rattle.fsrm_base.specs.Keyed.{is_ascending, row_of}
 use Rattle.row_table.specs.declared.index.Entry.{Entry}
@@ -19,15 +19,15 @@ pub record Indexed : Type 0 where
   pub entries : List Entry
   pub room : ℕ
 
--- what is noted of a number: one more than its slot, or 0
+-- what is noted of a number: its slot, or 65535, which is none
 abbrev pub noted : Option Entry → ℕ
-noted None = 0
-noted (Some entry) = entry.slot + 1
+noted None = 65535
+noted (Some entry) = entry.slot
 
--- notes to which others, all 0, were added at the end
+-- notes to which others, of numbers that are not there, were added at the end
 pub record AreGrown (old new : List ℕ) : Type 0 where
   pub longer : length old ≤ length new
-  pub kept : (n : ℕ) → slice_index new n ≡ slice_index old n
+  pub kept : (n : ℕ) → slice_index_or new n 65535 ≡ slice_index_or old n 65535
 
 -- the entries in their order
 pub record AreIndexed (it : Indexed) : Type 0 where
@@ -41,4 +41,4 @@ pub record IsIndex (it : Indexed) (notes : List ℕ) (bound capacity : ℕ) : Ty
   pub held : AreIndexed it
   pub memory : it.room ≤ capacity
   pub within : length notes ≤ bound
-  pub told : (n : ℕ) → n < bound → slice_index notes n ≡ noted (row_of number_of n it.entries)
+  pub told : (n : ℕ) → n < bound → slice_index_or notes n 65535 ≡ noted (row_of number_of n it.entries)

@@ -6,7 +6,8 @@ ghost use Rattle.fsrm_base.specs.Keyed.{has_row, is_ascending, least_free, row_o
 ghost use Rattle.fsrm_base.specs.Places.{IsAt};
 ghost use Rattle.row_table.specs.Indexed.{AreIndexed, noted, number_of, slot_in};
 
-use crate::notes::{cover, write};
+use crate::notes::{NO_SLOT, cover, write};
+use crate::order;
 use fsrm_base::NoMemory;
 use fsrm_base::places::{Key, free_number, gap, search};
 use std::alloc::Global;
@@ -35,18 +36,6 @@ impl Key for ByNumber {
 
     fn number(row: &Entry) -> u32 {
         row.number
-    }
-}
-
-// The note that a number has by its entry, which is found by halves.
-fn searched(order: &[Entry], number: u32) -> u16
-    requires ascending { is_ascending number_of order.now ≡ true }
-    requires small { list_all (λ entry. nat_lt entry.slot 65535) order.now ≡ true }
-    ensures { result ≡ noted (row_of number_of number order.now) }
-{
-    match search::<ByNumber>(order, number) {
-        Ok(place) => order[place].slot + 1,
-        Err(_) => 0,
     }
 }
 
@@ -97,24 +86,29 @@ impl Index {
         Ok(())
     }
 
-    /// The slot of a number.
-    pub fn slot(&self, number: u32) -> Option<u16>
-        ensures { result ≡ slot_in self.now.entries number }
-    {
-        self.note(number).checked_sub(1)
-    }
-
-    // What is noted of a number.
-    fn note(&self, number: u32) -> u16
+    /// What is noted of a number: its slot, or `NO_SLOT` if it isn't there.
+    pub fn note(&self, number: u32) -> u16
         ensures { result ≡ noted (row_of number_of number self.now.entries) }
     {
         if (number as usize) < self.notes.len() {
             return self.notes[number as usize];
         }
         if number < self.bound {
-            return 0;
+            return NO_SLOT;
         }
-        searched(&self.order, number)
+        self.searched(number)
+    }
+
+    // The same by halves. It stands apart, since hardly a number has no note, so that what looks at notes is short enough
+    // to be inlined.
+    #[inline(never)]
+    fn searched(&self, number: u32) -> u16
+        ensures { result ≡ noted (row_of number_of number self.now.entries) }
+    {
+        match search::<ByNumber>(&self.order, number) {
+            Ok(place) => self.order[place].slot,
+            Err(_) => NO_SLOT,
+        }
     }
 
     /// The place of a number, from 0, by halves.
@@ -137,8 +131,8 @@ impl Index {
     {
         self.bound = cover(&mut self.notes, entry.number, self.bound);
         let place = gap::<ByNumber>(&self.order, entry.number);
-        self.order.insert(place, entry).unwrap();
-        write(&mut self.notes, entry.number, entry.slot + 1);
+        order::insert(&mut self.order, place, entry);
+        write(&mut self.notes, entry.number, entry.slot);
     }
 
     /// Takes a number out that is there, and answers its slot.
@@ -148,8 +142,8 @@ impl Index {
         ensures slot { slot_in self.old.entries number ≡ Some result }
     {
         let place = search::<ByNumber>(&self.order, number).unwrap();
-        let entry = self.order.remove(place);
-        write(&mut self.notes, number, 0);
+        let entry = order::remove(&mut self.order, place);
+        write(&mut self.notes, number, NO_SLOT);
         entry.slot
     }
 

@@ -28,18 +28,24 @@ pub trait Kind: Key<Row: Drop> {
     ghost fits: { MOST * most_bytes < 2 ^ 32 };
 }
 
-/// A change of a row where it stands.
+/// A change of a row where it stands, which may tell something of it.
 pub trait Edit<R> {
-    // Which rows it may change, and what it makes of one. In a `Table` the row's number and the bytes of its texts have
-    // to stay.
+    /// What it tells.
+    type Told: Drop;
+
+    // Which rows it may change, what it makes of one, and what it tells of the row as it was. In a `Table` the row's
+    // number and the bytes of its texts have to stay.
     ghost may: { Self → R → Type 0 };
 
     ghost edited: { Self → R → R };
 
+    ghost told: { Self → R → Self.Told };
+
     /// Changes a row.
-    fn edit(&self, row: &mut R)
+    fn edit(&self, row: &mut R) -> Self::Told
         requires { may self.now row.old }
-        ensures { row.new ≡ edited self.now row.old };
+        ensures edited { row.new ≡ edited self.now row.old }
+        ensures told { result ≡ told self.now row.old };
 }
 
 /// A test of a row.

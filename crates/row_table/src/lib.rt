@@ -9,6 +9,7 @@
 mod index;
 mod kind;
 mod notes;
+mod order;
 mod pool;
 mod table;
 

@@ -1,9 +1,12 @@
-//! Notes of numbers: 0 for one that isn't there, else one more than its slot.
+//! Notes of numbers: the slot of one that is there, else `NO_SLOT`.
 
 ghost use Rattle.std.specs.Prelude.{◌≡◌, ◌≤◌, ◌<◌, length, slice_set};
 ghost use Rattle.row_table.specs.Indexed.{AreGrown};
 
-/// Has the notes reach a number, if it is below the bound; 0 stands in each that is new. If there is no memory for
+/// What is noted of a number that isn't there. It is no slot.
+pub(crate) const NO_SLOT: u16 = 65535;
+
+/// Has the notes reach a number, if it is below the bound; each that is new is `NO_SLOT`. If there is no memory for
 /// that, the bound is lowered to the numbers that have notes. Answers the bound.
 pub(crate) fn cover(notes: &mut Vec<u16>, number: u32, bound: u32) -> u32
     requires { length notes.old.items ≤ bound }
@@ -16,7 +19,7 @@ pub(crate) fn cover(notes: &mut Vec<u16>, number: u32, bound: u32) -> u32
     if bound <= number || reach <= notes.len() {
         return bound;
     }
-    match notes.resize(reach, 0) {
+    match notes.resize(reach, NO_SLOT) {
         Ok(()) => bound,
         Err(_) => notes.len() as u32,
     }

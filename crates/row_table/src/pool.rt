@@ -1,6 +1,6 @@
 //! Slots for rows, which stay where they are.
 
-ghost use Rattle.std.specs.Prelude.{◌≡◌, ◌+◌, ◌<◌, ◌≤◌, max, map, OnOk, OnErr, [], IsSome, Some, None, option_map};
+ghost use Rattle.std.specs.Prelude.{◌≡◌, ◌+◌, ◌<◌, ◌≤◌, max, map, OnOk, OnErr, [], IsSome, Some, None, length, option_map};
 ghost use Rattle.std.specs.Option.{option_copied};
 ghost use Rattle.row_table.specs.Pooled.{Puts, in_slot};
 
@@ -11,12 +11,14 @@ use std::marker::Model;
 use std::mem;
 
 // Changes the row of a slot, if it has one.
-fn edit_slot<R, E: Edit<R>>(slot: &mut Option<R>, edit: &E)
-    requires { (row : R) → E.may edit.now row }
-    ensures { slot.new ≡ option_map (E.edited edit.now) slot.old }
+fn edit_slot<R, E: Edit<R>>(slot: &mut Option<R>, edit: &E) -> Option<E::Told>
+    requires { (row : R) → slot.old ≡ Some row → E.may edit.now row }
+    ensures edited { slot.new ≡ option_map (E.edited edit.now) slot.old }
+    ensures told { result ≡ option_map (E.told edit.now) slot.old }
 {
-    if let Some(row) = slot {
-        edit.edit(row);
+    match slot {
+        Some(row) => Some(edit.edit(row)),
+        None => None,
     }
 }
 
@@ -126,16 +128,19 @@ impl<R: Drop> Pool<R> {
         mem::swap(held, row);
     }
 
-    /// Changes the row of a slot where it stands.
-    pub fn change<E: Edit<R>>(&mut self, slot: u16, edit: &E)
-        requires there { IsSome (in_slot self.old.slots slot) }
-        requires may { (row : R) → in_slot self.old.slots slot ≡ Some row → E.may edit.now row }
+    /// Changes the row of a slot where it stands, if it has one, and answers what the edit tells.
+    pub fn change<E: Edit<R>>(&mut self, slot: u16, edit: &E) -> Option<E::Told>
+        requires { (row : R) → slot < 65535 → in_slot self.old.slots slot ≡ Some row → E.may edit.now row }
         ensures put { Puts self.old.slots self.new.slots slot (option_map (E.edited edit.now) (in_slot self.old.slots slot)) }
         ensures held { self.new.held ≡ self.old.held }
         ensures room { self.new.room ≡ self.old.room }
+        ensures told { result ≡ option_map (E.told edit.now) (in_slot self.old.slots slot) }
+        ensures few { length self.old.slots < 65536 }
     {
-        let row = self.slots[slot as usize].as_mut().unwrap();
-        edit.edit(row);
+        if (slot as usize) < self.slots.len() {
+            return edit_slot(&mut self.slots[slot as usize], edit);
+        }
+        None
     }
 
     /// Changes each row where it stands.
@@ -148,7 +153,8 @@ impl<R: Drop> Pool<R> {
 
     /// The row of a slot.
     pub fn get(&self, slot: u16) -> Option<&R>
-        ensures { option_copied result ≡ in_slot self.now.slots slot }
+        ensures row { option_copied result ≡ in_slot self.now.slots slot }
+        ensures few { length self.now.slots < 65536 }
     {
         if (slot as usize) < self.slots.len() {
             return self.slots[slot as usize].as_ref();

@@ -1,6 +1,6 @@
 //! A table whose rows stay where they are.
 
-ghost use Rattle.std.specs.Prelude.{◌≡◌, ◌*◌, ◌<◌, ◌≤◌, ◌==◌, find, map, max, nat_le, IfSome, MatchOption, OnOk, OnErr, Some, None, [], true, false, length, slice_get, sum_by};
+ghost use Rattle.std.specs.Prelude.{◌≡◌, ◌*◌, ◌<◌, ◌≤◌, ◌==◌, find, map, max, nat_le, option_map, IfSome, MatchOption, OnOk, OnErr, Some, None, [], true, false, length, slice_get, sum_by};
 ghost use Rattle.std.specs.Option.{option_copied};
 ghost use Rattle.fsrm_base.specs.Keyed.{has_row, least_free, row_of, with_change, with_row, without_row};
 ghost use Rattle.fsrm_base.specs.Places.{IsAt};
@@ -89,22 +89,21 @@ impl<K: Kind> Table<K> {
         ensures put { self.new ≡ record self.old { rows = with_change K.key (K.key row.old) (λ old. row.old) self.old.rows } }
         ensures taken { row_of K.key (K.key row.old) self.old.rows ≡ Some row.new }
     {
-        let slot = self.index.slot(K::number(row)).unwrap();
+        let slot = self.index.note(K::number(row));
         let bytes = K::texts(row);
         self.pool.swap(slot, row);
         self.texts = self.texts - K::texts(row) + bytes;
     }
 
-    /// Changes the row of a number where it stands, if there is one. Its number and the bytes of its texts stay. It
-    /// takes no memory.
-    pub fn change<E: Edit<K::Row>>(&mut self, number: u32, edit: &E)
+    /// Changes the row of a number where it stands, if there is one, and answers what the edit tells. The row's number
+    /// and the bytes of its texts stay. It takes no memory.
+    pub fn change<E: Edit<K::Row>>(&mut self, number: u32, edit: &E) -> Option<E::Told>
         requires may { (row : K.Row) → row_of K.key number self.old.rows ≡ Some row → E.may edit.now row }
         requires keeps { Keeps K.key K.bytes (E.edited edit.now) }
-        ensures { self.new ≡ record self.old { rows = with_change K.key number (E.edited edit.now) self.old.rows } }
+        ensures changed { self.new ≡ record self.old { rows = with_change K.key number (E.edited edit.now) self.old.rows } }
+        ensures told { result ≡ option_map (E.told edit.now) (row_of K.key number self.old.rows) }
     {
-        if let Some(slot) = self.index.slot(number) {
-            self.pool.change(slot, edit);
-        }
+        self.pool.change(self.index.note(number), edit)
     }
 
     /// Changes each row where it stands. Its number and the bytes of its texts stay. It takes no memory.
@@ -122,10 +121,7 @@ impl<K: Kind> Table<K> {
         ensures small { IfSome (option_copied result) (λ row. K.bytes row ≤ K.most_bytes) }
         ensures kept { AreHeld K.key K.bytes K.MOST K.most_bytes self.now }
     {
-        match self.index.slot(number) {
-            Some(slot) => self.pool.get(slot),
-            None => None,
-        }
+        self.pool.get(self.index.note(number))
     }
 
     /// Whether a row has the number.

@@ -95,13 +95,15 @@ impl PlainTable {
         old
     }
 
-    /// Gives the row of a number another mark.
-    pub fn mark(&mut self, number: u32, mark: u32) {
+    /// Gives the row of a number another mark, and answers the one that it had.
+    pub fn mark(&mut self, new: Row) -> Option<u32> {
+        let old = self.get(new.number).map(|row| row.mark);
         for row in &mut self.rows {
-            if row.number == number {
-                row.mark = mark;
+            if row.number == new.number {
+                row.mark = new.mark;
             }
         }
+        old
     }
 
     /// Gives all rows a mark.

@@ -6,6 +6,7 @@ use fsrm_base::places::Key;
 use rand_pcg::Pcg32;
 use row_table::{Edit, Kind, Table, Test};
 use std::alloc::Global;
+use std::mem;
 use std::process::Abort;
 use std::test::Fail;
 
@@ -55,19 +56,23 @@ impl Kind for Rows {
     ghost fits = { Prim.search rules };
 }
 
-// Another mark of a row, or a row's mark.
+// Another mark of a row, or a row's mark. It tells the mark that the row had.
 #[derive(Clone, Copy)]
 struct Mark {
     mark: u32,
 }
 
 impl Edit<Row> for Mark {
+    type Told = u32;
+
     ghost may = { λ edit row. Unit {0} };
 
     ghost edited = { λ edit row. record row { mark = edit.mark } };
 
-    fn edit(&self, row: &mut Row) {
-        row.mark = self.mark;
+    ghost told = { λ edit row. row.mark };
+
+    fn edit(&self, row: &mut Row) -> u32 {
+        mem::replace(&mut row.mark, self.mark)
     }
 }
 
@@ -135,9 +140,9 @@ fn swap(table: &mut Table<Rows>, row: Row) -> Option<Row> {
     None
 }
 
-fn mark_both(table: &mut Table<Rows>, plain: &mut PlainTable, number: u32, mark: u32) {
-    table.change(number, &Mark { mark });
-    plain.mark(number, mark);
+// Gives the row of a number another mark, and answers the one that it had.
+fn change_mark(table: &mut Table<Rows>, row: Row) -> Option<u32> {
+    table.change(row.number, &Mark { mark: row.mark })
 }
 
 fn mark_each_of_both(table: &mut Table<Rows>, plain: &mut PlainTable, mark: u32) {
@@ -156,7 +161,7 @@ fn change_both(
         0..=4 => insert_both(table, plain, row)?,
         5 | 6 => assert!(end; remove(table, row.number) == plain.remove(row.number)),
         7 => assert!(end; swap(table, row) == plain.swap(row)),
-        8 => mark_both(table, plain, row.number, row.mark),
+        8 => assert!(end; change_mark(table, row) == plain.mark(row)),
         _ => mark_each_of_both(table, plain, row.mark),
     }
     Ok(())

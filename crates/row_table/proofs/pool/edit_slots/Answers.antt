@@ -7,5 +7,5 @@ pub loop-slot-preserved : goal.loop-slot-preserved
 loop-slot-preserved g c =
     let f = option_map (g.E.Edit.edited c.args.edit.now) in
     let slot = c.index-slots-slot.result in
-    ap (slice_set c.loop-slot.slots c.loop-slot.slot) (c.edit_slot.ensures ∙ ap f (sym c.index-slots-slot.is))
+    ap (slice_set c.loop-slot.slots c.loop-slot.slot) (c.edit_slot.ensures.edited ∙ ap f (sym c.index-slots-slot.is))
     ∙ map_over_more f c.args.slots.now c.loop-slot.slots c.loop-slot.slot slot c.loop-slot-test.true c.loop-slot.invariant c.index-slots-slot.is

@@ -11,15 +11,15 @@ invariant_of-self c =
     let i = c.self.inside in
     let e = c.args.entry in
     let gap = rw c.deref.ensures.value at c.gap-place.ensures in
-    let items = rw c.unwrap.ensures at c.insert.ensures.items ∙ insert_row number_of e i.order.items c.gap-place.result gap in
+    let items = c.insert.ensures.put ∙ insert_row number_of e i.order.items c.gap-place.result gap in
     let cover = c.cover-self-inside.ensures in
     let room = subst (λ (it : Indexed). length it.entries < it.room) (sym c.self.view_is) c.requires.room in
     rw (items, c.write.ensures)
-    (index_more (indexed i.order.items i.room) i.notes.items c.cover-self-inside.new.notes.items i.bound c.cover-self-inside.result (vec_capacity i.order) (vec_capacity c.insert.new.self) e
+    (index_more (indexed i.order.items i.room) i.notes.items c.cover-self-inside.new.notes.items i.bound c.cover-self-inside.result (vec_capacity i.order) (vec_capacity c.insert.new.order) e
     c.self.invariant cover.grown cover.reached cover.within cover.most gap.absent room c.requires.small c.insert.ensures.capacity)
 
 pub returns : goal.returns
 returns c =
     let gap = rw c.deref.ensures.value at c.gap-place.ensures in
-    let items = rw c.unwrap.ensures at c.insert.ensures.items ∙ insert_row number_of c.args.entry c.self.inside.order.items c.gap-place.result gap in
+    let items = c.insert.ensures.put ∙ insert_row number_of c.args.entry c.self.inside.order.items c.gap-place.result gap in
     rw items (ap (λ (it : Indexed). indexed (with_row number_of c.args.entry it.entries) it.room) c.self.view_is)

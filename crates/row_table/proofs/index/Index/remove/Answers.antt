@@ -1,5 +1,4 @@
-use Rattle.std.proofs.Common.{length, refl, ◌∙◌, ap, sym}
-use Rattle.std.proofs.lemmas.Option.{slice_get_read}
+use Rattle.std.proofs.Common.{◌∙◌, ap, sym}
 use Rattle.std.specs.Prelude.{option_map}
 use Rattle.std.specs.Vec.{vec_capacity}
 use Rattle.fsrm_base.specs.Keyed.{without_row}
@@ -12,17 +11,15 @@ pub invariant_of-self : goal.invariant_of-self
 invariant_of-self c =
     let i = c.self.inside in
     let at = rw c.deref.ensures.value at (rw c.unwrap-place.ensures at c.search.ensures.found) in
-    let items = c.remove-entry.ensures.items ∙ remove_found number_of c.args.number i.order.items c.unwrap-place.result c.self.invariant.held.ascending at in
+    let items = c.remove-entry.ensures.rest ∙ remove_found number_of c.args.number i.order.items c.unwrap-place.result c.self.invariant.held.ascending at in
     rw (items, c.write.ensures, c.remove-entry.ensures.capacity) (index_less (indexed i.order.items i.room) i.notes.items i.bound (vec_capacity i.order) c.args.number c.self.invariant)
 
 pub returns : goal.returns
 returns c =
     let i = c.self.inside in
     let at = rw c.deref.ensures.value at (rw c.unwrap-place.ensures at c.search.ensures.found) in
-    let items = c.remove-entry.ensures.items ∙ remove_found number_of c.args.number i.order.items c.unwrap-place.result c.self.invariant.held.ascending at in
+    let items = c.remove-entry.ensures.rest ∙ remove_found number_of c.args.number i.order.items c.unwrap-place.result c.self.invariant.held.ascending at in
     record {
       rest = rw items (ap (λ (it : Indexed). indexed (without_row number_of c.args.number it.entries) it.room) c.self.view_is);
-      slot =
-          ap (λ (it : Indexed). slot_in it.entries c.args.number) (sym c.self.view_is)
-          ∙ ap (option_map slot_of) (sym at.found ∙ slice_get_read i.order.items (length i.order.items) c.unwrap-place.result c.remove-entry.result refl at.within c.remove-entry.ensures.value);
+      slot = ap (λ (it : Indexed). slot_in it.entries c.args.number) (sym c.self.view_is) ∙ ap (option_map slot_of) (sym at.found ∙ c.remove-entry.ensures.entry);
     }

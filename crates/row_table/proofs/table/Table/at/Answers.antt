@@ -11,10 +11,10 @@ at-requires g c = omega (arith, c.requires, count (table_of c.self.invariant c.s
 
 pub unwrap-requires : goal.unwrap-requires
 unwrap-requires g c =
-    let row = c.get.ensures ∙ row_at (table_of c.self.invariant c.self.view_is) c.args.place c.at.result c.at.ensures in
+    let row = c.get.ensures.row ∙ row_at (table_of c.self.invariant c.self.view_is) c.args.place c.at.result c.at.ensures in
     is_lent c.get.result ∙ ap is_some (row ∙ (there c.args.self.now.rows c.args.place c.requires).is)
 
 pub returns : goal.returns
 returns g c =
     sym (row_at (table_of c.self.invariant c.self.view_is) c.args.place c.at.result c.at.ensures)
-    ∙ (sym c.get.ensures ∙ ap option_copied c.unwrap.ensures)
+    ∙ (sym c.get.ensures.row ∙ ap option_copied c.unwrap.ensures)
