@@ -12,10 +12,10 @@ use Rattle.name_patterns.specs.Folded.{matches_folded}
 use Rattle.name_patterns.proofs.TailLaws.{last_passed}
 
 -- the bit of a character
-pub one_end : (c : ℕ) → is_end (record { bits = 1 * 2 ^ (c % 64) % 2 ^ 64 }) c ≡ true
+pub one_end : (c : ℕ) → is_end (record { bits = 1 * 2 ^ (c % 128) % 2 ^ 128 }) c ≡ true
 one_end c =
-    let k = c % 64 in
-    eq_test _ 1 (ap (λ n. bit_at n k) (one_shl k 64 (omega arith)) ∙ bit_at-pow_same k)
+    let k = c % 128 in
+    eq_test _ 1 (ap (λ n. bit_at n k) (one_shl k 128 (omega arith)) ∙ bit_at-pow_same k)
 
 -- a character of a pattern that stands for itself alone
 pub last_is : (w c : ℕ) (ps before cs : List ℕ) → (w ≡ 42 → ⊥) → (w ≡ 63 → ⊥) → ps ≡ before ++ w ∷ [] → matches_folded ps (cs ++ c ∷ []) ≡ true → simple_fold w ≡ c

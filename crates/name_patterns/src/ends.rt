@@ -8,10 +8,10 @@ use crate::folded::fold;
 use crate::matching::{Rest, last, meant};
 use fsrm_model::{List, Text};
 
-/// What some names end with, as bits, of which each stands for the characters of one number modulo 64.
+/// What some names end with, as bits, of which each stands for the characters of one number modulo 128.
 #[derive(Clone, Copy)]
 pub struct Ends {
-    bits: u64,
+    bits: u128,
 }
 
 impl Ends {
@@ -38,7 +38,7 @@ impl Ends {
     fn of_pattern(pattern: &str) -> Ends
         ensures { Cover result (λ name. pattern_matches_folded name pattern.now) }
     {
-        let all = Ends { bits: u64::MAX };
+        let all = Ends { bits: u128::MAX };
         let Some((wanted, _before)) = last(meant(pattern)) else {
             return all;
         };
@@ -46,7 +46,7 @@ impl Ends {
             return all;
         }
         Ends {
-            bits: 1 << (fold(wanted) as u32 % 64),
+            bits: 1 << (fold(wanted) as u32 % 128),
         }
     }
 
@@ -64,7 +64,7 @@ impl Ends {
     fn has(self, character: char) -> bool
         ensures { result ≡ is_end self character }
     {
-        self.bits >> (character as u32 % 64) & 1 == 1
+        self.bits >> (character as u32 % 128) & 1 == 1
     }
 
     /// Whether a name may pass a test, told by the ends of those that do. An empty name may.

@@ -3,4 +3,4 @@ use Rattle.std.proofs.lemmas.Nat.Bits.{shr_and_one}
 use Rattle.name_patterns.proofs.ends.Ends.has.Goals as goal
 
 pub returns : goal.returns
-returns c = ap (λ n. n == 1) (shr_and_one c.args.self.bits (c.args.character % 64))
+returns c = ap (λ n. n == 1) (shr_and_one c.args.self.bits (c.args.character % 128))

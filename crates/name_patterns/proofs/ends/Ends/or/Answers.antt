@@ -10,7 +10,7 @@ pub returns : goal.returns
 returns c = λ test other cover also cs character is.
     let ends = c.args.self in
     let others = c.args.others in
-    let k = character % 64 in
+    let k = character % 128 in
     let joined : is_end (record { bits = bit_or ends.bits others.bits }) character ≡ (is_end ends character || is_end others character) =
     grind (arith, nat_tests, bit_at_or ends.bits others.bits k, bit_at-lt ends.bits k, bit_at-lt others.bits k) in
     joined ∙ elim (is_or _ _ is) [
