@@ -53,10 +53,6 @@ counted_acts before now run_limit moment quotas =
     flat_map (λ quota. used_acts (used_in before quota.folder) (used_in now quota.folder) run_limit moment quota) quotas
 
 -- ---- changes
--- how many bytes a folder loses to which a change gives some: all that the change takes, if it takes them from the same folder
-abbrev pub lost_by : Change → ℕ → ℕ
-lost_by change to = option_map_or (λ from. if from == to then change.minus else 0) change.from 0
-
 -- a change takes no more from a counter than there is, and no more is given than taken where bytes move to another folder
 pub record IsCovered (nodes : List NodeRow) (counters : List Counter) (change : Change) : Type 0 where
   pub small : (folder bytes : ℕ) → used_in counters folder ≡ Some bytes → bytes < 2 ^ 64

@@ -1,6 +1,6 @@
 //! What file operations do to counters and peaks: which quotas cross a threshold then, and what a quota refuses.
 
-ghost use Rattle.std.specs.Prelude.{◌≡◌, ◌+◌, ◌*◌, ◌<◌, ◌≤◌, ◌==◌, ◌&&◌, Bool, Some, true, map, length, if◌then◌else◌};
+ghost use Rattle.std.specs.Prelude.{◌≡◌, ℕ, ◌+◌, ◌*◌, ◌<◌, ◌≤◌, ◌^◌, ◌==◌, ◌&&◌, Bool, List as Items, Some, true, map, length, if◌then◌else◌};
 ghost use Rattle.fsrm_base.specs.Keyed.{has_row, is_ascending, row_of, with_change};
 ghost use Rattle.fsrm_model.specs.values.Limits.{most_entries, most_quotas};
 ghost use Rattle.fsrm_model.specs.declared.row.QuotaRow.{QuotaRow};
@@ -9,9 +9,11 @@ ghost use Rattle.fsrm_model.specs.nodes.Tree.{number as key, chain, is_under};
 ghost use Rattle.fsrm_model.specs.store.Valid.{IsVolume};
 ghost use Rattle.fsrm_objects.specs.Tables.{without_quota};
 ghost use Rattle.quota_usage.specs.Charge.{IsChange, Fits, height};
-ghost use Rattle.quota_usage.specs.Counters.{without_counter};
+ghost use Rattle.quota_usage.specs.Climb.{FitsAbove, amended, amended_counter, climbed};
+ghost use Rattle.quota_usage.specs.Counters.{counted, used_in, without_counter};
+ghost use Rattle.quota_usage.specs.declared.change.Counter.{Counter};
 ghost use Rattle.thresholds.specs.Settled.{are_orderly};
-ghost use Rattle.fsrm_engine.specs.Crossing.{is_crossing, lost_by, used_before, Drops, IsCovered, Notes};
+ghost use Rattle.fsrm_engine.specs.Crossing.{is_crossing, used_before, Drops, IsCovered, Notes};
 ghost use Rattle.fsrm_engine.specs.Due.{charged_acts, is_kept, Refuses};
 ghost use Rattle.fsrm_engine.specs.Machine.{charged_parts, AreCounted, IsCalm, IsReady, Ran};
 ghost use Rattle.fsrm_engine.specs.Peaks.{raised, raised_to};
@@ -25,6 +27,15 @@ use number_set::NumberSet;
 use quota_usage::{Change, Exceeded, Usage};
 use thresholds::crosses_any;
 use volume_tree::Tree;
+
+/// What a change gives on a way up: there each counter loses `minus` bytes, as many as it has at most, and then gains
+/// `plus`, at a moment in seconds since 1970-01-01 00:00:00 UTC.
+#[derive(Clone, Copy)]
+pub struct Gain {
+    pub minus: u64,
+    pub plus: u64,
+    pub moment: u64,
+}
 
 // Raises the peak of a folder's quota, which is this one, to what is used, if that is more.
 fn raise_to(objects: &mut Objects, folder: u32, peak: u64, used: u64, moment: u64)
@@ -60,16 +71,6 @@ pub fn used_before(minus: u64, plus: u64, now: u64) -> u64
     now.saturating_sub(plus).saturating_add(minus)
 }
 
-// How many bytes a folder lost to which a change gave some.
-fn lost_by(change: &Change, to: u32) -> u64
-    ensures { result ≡ lost_by change.now to }
-{
-    match change.from {
-        Some(from) if from == to => change.minus,
-        _ => 0,
-    }
-}
-
 // Notes a folder's quota if it crosses a threshold. Its place is sought by halves, so only then.
 fn note_if(objects: &Objects, crossing: &mut NumberSet, folder: u32, crosses: bool)
     requires ascending { is_ascending folder_of objects.now.quotas ≡ true }
@@ -85,63 +86,64 @@ fn note_if(objects: &Objects, crossing: &mut NumberSet, folder: u32, crosses: bo
     crossing.insert(place);
 }
 
-// Raises the peak of a folder's quota to what is used, if that is more, and notes the quota's place if it crosses a
-// threshold. The folder lost `minus` bytes, and then gained `plus`.
+// Has a folder's counter lose bytes and gain others, raises the peak of its quota to what is used then, if that is more,
+// and notes the quota's place if it crosses a threshold. Peaks and thresholds go by the folder's own counter alone, so
+// the counters may come to anything else beside it.
 #[inline(always)]
-fn gain(
-    usage: &Usage,
+fn gain_at(
+    usage: &mut Usage,
     objects: &mut Objects,
     crossing: &mut NumberSet,
     folder: u32,
-    minus: u64,
-    plus: u64,
-    moment: u64,
+    gain: Gain,
 )
+    requires fits { (bytes : ℕ) → used_in usage.old folder ≡ Some bytes → amended gain.minus gain.plus bytes < 2 ^ 64 }
     requires ascending { is_ascending folder_of objects.old.quotas ≡ true }
     requires bound { crossing.old.bound ≡ most_quotas }
-    ensures raised { objects.new ≡ record objects.old { quotas = with_change folder_of folder (raised usage.now moment) objects.old.quotas } }
-    ensures noted { Notes crossing.old crossing.new objects.old.quotas (λ quota. (quota.folder == folder) && is_crossing usage.now minus plus quota) }
+    ensures counted { usage.new ≡ with_change counted folder (amended_counter gain.minus gain.plus) usage.old }
+    ensures raised { (counters : Items Counter) → used_in counters folder ≡ used_in usage.new folder → objects.new ≡ record objects.old { quotas = with_change folder_of folder (raised counters gain.moment) objects.old.quotas } }
+    ensures noted { (counters : Items Counter) → used_in counters folder ≡ used_in usage.new folder → Notes crossing.old crossing.new objects.old.quotas (λ quota. (quota.folder == folder) && is_crossing counters gain.minus gain.plus quota) }
 {
-    let Some(now) = usage.used(folder) else {
+    let Some(now) = usage.amend(folder, gain.minus, gain.plus) else {
         return;
     };
     let Some(quota) = objects.quota(folder) else {
         return;
     };
     let peak = quota.peak;
-    let before = used_before(minus, plus, now);
+    let before = used_before(gain.minus, gain.plus, now);
     let crosses = crosses_any(quota, before, now);
     note_if(objects, crossing, folder, crosses);
-    raise_to(objects, folder, peak, now, moment);
+    raise_to(objects, folder, peak, now, gain.moment);
 }
 
-// The same of a folder and each above it.
-fn raise_above<L: Ledger>(
+// The same of a folder and each above it, on one way up.
+fn gain_above<L: Ledger>(
     tree: &Tree,
-    usage: &Usage,
+    usage: &mut Usage,
     objects: &mut Objects,
     crossing: &mut NumberSet,
     folder: u32,
-    minus: u64,
-    plus: u64,
-    moment: u64,
+    gain: Gain,
     steps: &mut Steps<L>,
 )
     requires volume { IsVolume tree.now.size tree.now.nodes }
     requires there { has_row key folder tree.now.nodes ≡ true }
+    requires fits { FitsAbove tree.now.nodes usage.old folder gain.minus gain.plus }
     requires ascending { is_ascending folder_of objects.old.quotas ≡ true }
     requires bound { crossing.old.bound ≡ most_quotas }
-    ensures quotas { objects.new ≡ record objects.old { quotas = map (λ quota. if is_under tree.now.nodes quota.folder folder then raised usage.now moment quota else quota) objects.old.quotas } }
-    ensures noted { Notes crossing.old crossing.new objects.old.quotas (λ quota. is_under tree.now.nodes quota.folder folder && is_crossing usage.now minus plus quota) }
+    ensures counted { usage.new ≡ climbed tree.now.nodes folder gain.minus gain.plus usage.old }
+    ensures quotas { objects.new ≡ record objects.old { quotas = map (λ quota. if is_under tree.now.nodes quota.folder folder then raised usage.new gain.moment quota else quota) objects.old.quotas } }
+    ensures noted { Notes crossing.old crossing.new objects.old.quotas (λ quota. is_under tree.now.nodes quota.folder folder && is_crossing usage.new gain.minus gain.plus quota) }
     ensures looks { steps.new ≤ steps.old + length (chain tree.now.nodes folder) }
 {
-    // Without counters no peak rises and nothing is crossed, so there is no need to climb.
+    // Without counters nothing is gained, so there is no need to climb.
     if usage.is_empty() {
         return;
     }
     let mut way = tree.way_up(folder);
     while let Some(at) = way.next(steps) {
-        gain(usage, objects, crossing, at, minus, plus, moment);
+        gain_at(usage, objects, crossing, at, gain);
     }
 }
 
@@ -248,20 +250,22 @@ impl Parts {
         ensures charged { Ran (charged_parts self.old change.now moment) self.new moment (charged_acts self.old change.now moment) }
         ensures looks { steps.new ≤ steps.old + 3 * (height self.old.tree.nodes change.now.from + height self.old.tree.nodes change.now.to) }
     {
-        self.usage.charge(&self.tree, change, steps);
+        let minus = self.usage.take(&self.tree, change, steps);
         let Some(to) = change.to else {
             return;
         };
-        let (minus, plus) = (lost_by(change, to), change.plus);
-        raise_above(
+        let gain = Gain {
+            minus,
+            plus: change.plus,
+            moment,
+        };
+        gain_above(
             &self.tree,
-            &self.usage,
+            &mut self.usage,
             &mut self.objects,
             &mut self.crossing,
             to,
-            minus,
-            plus,
-            moment,
+            gain,
             steps,
         );
         self.drop_kept(change, to, steps);
@@ -270,10 +274,8 @@ impl Parts {
             &mut self.objects,
             &mut self.marks,
             &mut self.crossing,
-            minus,
-            plus,
+            gain,
             self.run_limit,
-            moment,
         );
     }
 

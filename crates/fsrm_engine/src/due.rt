@@ -14,7 +14,7 @@ ghost use Rattle.fsrm_engine.specs.Crossing.{acts_at, gained_acts};
 ghost use Rattle.fsrm_engine.specs.Due.{MaySettle};
 ghost use Rattle.fsrm_engine.specs.Machine.{AreCounted, Ran};
 
-use crate::charging::used_before;
+use crate::charging::{Gain, used_before};
 use crate::parts::Parts;
 use fsrm_model::QuotaRow;
 use fsrm_objects::Objects;
@@ -22,17 +22,14 @@ use number_set::NumberSet;
 use quota_usage::Usage;
 use thresholds::Marks;
 
-/// Settles the quotas whose places were noted, in the order of their folders. Each counter lost `minus` bytes, and then
-/// gained `plus`.
+/// Settles the quotas whose places were noted, in the order of their folders. Each of their counters has gained this.
 pub fn settle_noted(
     usage: &Usage,
     objects: &mut Objects,
     marks: &mut Marks,
     crossing: &mut NumberSet,
-    minus: u64,
-    plus: u64,
+    gain: Gain,
     run_limit: u32,
-    moment: u64,
 )
     requires orderly { are_orderly objects.old.quotas ≡ true }
     requires marked { are_there objects.old.quotas marks.old.numbers ≡ true }
@@ -40,14 +37,15 @@ pub fn settle_noted(
     requires log { length marks.old.log ≤ most_entries }
     requires noted { is_set crossing.old.members ≡ true }
     requires within { (place : ℕ) → is_in crossing.old.members place ≡ true → place < length objects.old.quotas }
-    ensures settled { Settles marks.old marks.new objects.old objects.new moment (acts_at (gained_acts usage.now minus plus run_limit moment) objects.old.quotas crossing.old.members) }
+    ensures settled { Settles marks.old marks.new objects.old objects.new gain.moment (acts_at (gained_acts usage.now gain.minus gain.plus run_limit gain.moment) objects.old.quotas crossing.old.members) }
     ensures sorted { is_set marks.new.numbers ≡ true }
     ensures none { crossing.new ≡ no_numbers crossing.old.bound }
 {
     while let Some(place) = crossing.take_least() {
         let folder = objects.quota_at(place).folder;
         let used = usage.used(folder);
-        let before = used.map(|now| used_before(minus, plus, now));
+        let before = used.map(|now| used_before(gain.minus, gain.plus, now));
+        let moment = gain.moment;
         marks.settle(objects, folder, None, before, used, run_limit, moment);
     }
 }

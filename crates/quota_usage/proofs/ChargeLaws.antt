@@ -2,14 +2,17 @@
 use Rattle.std.proofs.Common.{◌≡◌, ℕ, ◌+◌, ◌-◌, ◌<◌, ◌^◌, ◌==◌, Bool, true, false, cond, List, [], ◌∷◌, Option, Some, None, refl, sym, ◌∙◌, ap, subst, arith}
 use Rattle.std.proofs.lemmas.Option.{same_Some}
 use Rattle.std.specs.Prelude.{map, option_map, if◌then◌else◌}
+use Rattle.std.specs.Option.{option_map_or}
+use Rattle.fsrm_base.proofs.TestLaws.{eq_is, eq_same, not_true}
 use Rattle.fsrm_model.specs.declared.row.NodeRow.{NodeRow}
 use Rattle.fsrm_base.specs.Keyed.{row_of}
 use Rattle.fsrm_model.specs.nodes.Tree.{is_under}
 use Rattle.fsrm_model.proofs.nodes.ChainLaws.{Has}
 use Rattle.fsrm_base.proofs.Look.{found_key, find-map}
-use Rattle.quota_usage.specs.Charge.{is_above, IsThere}
-use Rattle.quota_usage.specs.Climb.{amended, amended_counter, climbed, FitsAbove}
+use Rattle.quota_usage.specs.Charge.{is_above, lost_by, IsThere}
+use Rattle.quota_usage.specs.Climb.{amended, amended_counter, climbed, climbed_from, FitsAbove}
 use Rattle.quota_usage.specs.Counters.{counted, used_in}
+use Rattle.quota_usage.specs.declared.change.Change.{Change}
 use Rattle.quota_usage.specs.declared.change.Counter.{Counter}
 use Rattle.quota_usage.proofs.ClimbLaws.{own_key}
 
@@ -87,6 +90,34 @@ charged_two nodes from to s d minus plus old middle new f t m n =
         let x = cond (is_under nodes c.folder s) (amended_counter minus 0 c) c in
         ap (λ f. cond (is_under nodes f d) (amended_counter 0 plus x) x) (own_key minus 0 (is_under nodes c.folder s) c)
         ∙ two_at (is_under nodes c.folder s) (is_under nodes c.folder d) minus plus c
+
+-- what a climb leaves of the change to another, if there is one
+pub left_given : (nodes : List NodeRow) (from to : Option ℕ) (minus plus : ℕ) (old : List Counter) → from ≡ None → climbed_from nodes to 0 plus old ≡ map (charged_by nodes from to minus plus) old
+left_given nodes from None minus plus old f = charged_none nodes from None minus plus old f refl
+left_given nodes from (Some d) minus plus old f = charged_given nodes from (Some d) d minus plus old f refl
+
+pub left_both : (nodes : List NodeRow) (from to : Option ℕ) (s minus plus : ℕ) (old : List Counter) → from ≡ Some s → to ≡ Some s → climbed_from nodes to minus plus old ≡ map (charged_by nodes from to minus plus) old
+left_both nodes from to s minus plus old f t = ap (λ o. climbed_from nodes o minus plus old) t ∙ charged_both nodes from to s s minus plus old f t refl
+
+pub left_taken : (nodes : List NodeRow) (from to : Option ℕ) (s minus plus : ℕ) (old new : List Counter) → from ≡ Some s → new ≡ climbed nodes s minus 0 old → climbed_from nodes to 0 plus new ≡ map (charged_by nodes from to minus plus) old
+left_taken nodes from None s minus plus old new f made = made ∙ charged_taken nodes from None s minus plus old f refl
+left_taken nodes from (Some d) s minus plus old new f made = charged_two nodes from (Some d) s d minus plus old new (climbed nodes d 0 plus new) f refl made refl
+
+pub left_from : (nodes : List NodeRow) (change : Change) (to : Option ℕ) (minus : ℕ) (taken all : List Counter) → change.to ≡ to → climbed_from nodes change.to minus change.plus taken ≡ all → climbed_from nodes to minus change.plus taken ≡ all
+left_from nodes change to minus taken all is left = sym (ap (λ o. climbed_from nodes o minus change.plus taken) is) ∙ left
+
+-- how many bytes the other one takes
+pub lost_none : (change : Change) (to : ℕ) → change.from ≡ None → 0 ≡ lost_by change to
+lost_none change to f = sym (ap (λ o. option_map_or (λ from. if from == to then change.minus else 0) o 0) f)
+
+lost_at : (change : Change) (to s : ℕ) (b : Bool) → change.from ≡ Some s → (s == to) ≡ b → cond b change.minus 0 ≡ lost_by change to
+lost_at change to s b f e = sym (ap (λ o. option_map_or (λ from. if from == to then change.minus else 0) o 0) f ∙ ap (λ b. cond b change.minus 0) e)
+
+pub lost_own : (change : Change) (to s : ℕ) → change.from ≡ Some s → change.to ≡ Some s → change.to ≡ Some to → change.minus ≡ lost_by change to
+lost_own change to s f own gives = lost_at change to s true f (ap (λ n. n == to) (same_Some s to (sym own ∙ gives)) ∙ eq_same to)
+
+pub lost_other : (change : Change) (to s : ℕ) → change.from ≡ Some s → (change.to ≡ Some s → ⊥) → change.to ≡ Some to → 0 ≡ lost_by change to
+lost_other change to s f other gives = lost_at change to s false f (not_true (s == to) (λ e. other (gives ∙ ap Some (sym (eq_is s to e)))))
 
 -- what fits the change fits its climbs
 abbrev pub FitsBy : List NodeRow → List Counter → Option ℕ → Option ℕ → ℕ → ℕ → Type 0

@@ -10,7 +10,8 @@ use Rattle.fsrm_model.proofs.nodes.ChainLaws.{IsTree, Has}
 use Rattle.fsrm_base.specs.Numbers.{is_in}
 use Rattle.fsrm_model.proofs.nodes.Below.{above_all}
 use Rattle.fsrm_model.proofs.nodes.Climbs.{above_root, along, climb, own_then_above, under_own, under_up}
-use Rattle.fsrm_base.proofs.Look.{found_key, row_of-change}
+use Rattle.fsrm_base.proofs.ChangedRows.{changed_rows}
+use Rattle.fsrm_base.proofs.Look.{find-map, found_key, row_of-change}
 use Rattle.quota_usage.specs.Climb.{amended, amended_counter, IsFirst, IsNearest}
 use Rattle.quota_usage.specs.Counters.{counted, used_in}
 use Rattle.quota_usage.specs.declared.change.Counter.{Counter}
@@ -96,6 +97,31 @@ fits_rest counters new way rest at minus plus is lacks made f = record {
       f.fits folder bytes (ap (λ (ns : List ℕ). is_in ns folder) is ∙ or_later (at == folder) _ on)
       (sym (ap (λ (now : List Counter). used_in now folder) made ∙ used_other minus plus at folder (apart_from at folder rest lacks on) counters) ∙ used);
 }
+
+-- its own is what its change makes of it
+own_at : (f : Counter → Counter) (g : Counter → ℕ) → ((r : Counter) → (f r).bytes ≡ g r) → (n : ℕ) (counters : List Counter) (o : Option Counter) → row_of counted n counters ≡ o → option_map (λ (r : Counter). r.bytes) (option_map (λ (r : Counter). if counted r == n then f r else r) o) ≡ option_map g o
+own_at f g tells n counters None found = refl
+own_at f g tells n counters (Some r) found =
+    ap (λ b. Some (cond b (f r) r).bytes) (ap (λ k. k == n) (found_key counted n counters r found) ∙ eq_same n) ∙ ap Some (tells r)
+
+pub used_own : (f : Counter → Counter) (g : Counter → ℕ) → ((r : Counter) → counted (f r) ≡ counted r) → ((r : Counter) → (f r).bytes ≡ g r) → (n : ℕ) (counters : List Counter) → used_in (with_change counted n f counters) n ≡ option_map g (row_of counted n counters)
+used_own f g keeps tells n counters =
+    ap (option_map (λ (r : Counter). r.bytes)) (row_of-change counted n f keeps n counters)
+    ∙ own_at f g tells n counters (row_of counted n counters) refl
+
+-- and that of a folder that is none of these
+pub used_apart : (minus plus : ℕ) (ns : List ℕ) (n : ℕ) → is_in ns n ≡ false → (counters : List Counter) → used_in (changed_rows counted (amended_counter minus plus) ns counters) n ≡ used_in counters n
+used_apart minus plus ns n lacks counters =
+    ap (option_map (λ (r : Counter). r.bytes))
+    (find-map (λ (r : Counter). counted r == n) change (λ r. ap (λ k. k == n) (own_key minus plus (is_in ns (counted r)) r)) counters
+    ∙ same (row_of counted n counters) refl)
+  where
+    change : Counter → Counter
+    change r = if is_in ns (counted r) then amended_counter minus plus r else r
+
+    same : (o : Option Counter) → row_of counted n counters ≡ o → option_map change o ≡ o
+    same None found = refl
+    same (Some r) found = ap (λ b. Some (cond b (amended_counter minus plus r) r)) (ap (is_in ns) (found_key counted n counters r found) ∙ lacks)
 
 -- what is refused on the way
 pub passes_up : (nodes : List NodeRow) → IsTree nodes → (refusal : ℕ → Option Exceeded) (start at up : ℕ) → Has nodes at → (at ≡ 0 → ⊥) → up ≡ parent_of nodes at → refusal at ≡ None → ((f : ℕ) → is_under nodes f start ≡ true → is_under nodes f at ≡ false → refusal f ≡ None) → (f : ℕ) → is_under nodes f start ≡ true → is_under nodes f up ≡ false → refusal f ≡ None

@@ -1,3 +1,4 @@
+pub mod OptionTests
 pub mod CounterLaws
 pub mod Refusals
 pub mod ClimbLaws

@@ -1,5 +1,5 @@
 -- What a change does to counters, and which quotas refuse it.
-use Rattle.std.specs.Prelude.{◌≡◌, ℕ, ◌+◌, ◌-◌, ◌<◌, ◌^◌, Bool, true, false, List, filter, length, Option, Some, None, option_map, unwrap_or, if◌then◌else◌}
+use Rattle.std.specs.Prelude.{◌≡◌, ℕ, ◌+◌, ◌-◌, ◌<◌, ◌^◌, ◌==◌, Bool, true, false, List, filter, length, Option, Some, None, option_map, unwrap_or, if◌then◌else◌}
 use Rattle.std.specs.Option.{option_map_or}
 use Rattle.fsrm_model.specs.declared.row.NodeRow.{NodeRow}
 use Rattle.fsrm_model.specs.declared.row.QuotaRow.{QuotaRow}
@@ -55,6 +55,10 @@ IsThere nodes (Some n) = has_row number n nodes ≡ true
 pub record IsChange (nodes : List NodeRow) (change : Change) : Type 0 where
   pub from : IsThere nodes change.from
   pub to : IsThere nodes change.to
+
+-- how many bytes a folder loses to which a change gives some: all that the change takes, if it takes them from the same folder
+abbrev pub lost_by : Change → ℕ → ℕ
+lost_by change to = option_map_or (λ from. if from == to then change.minus else 0) change.from 0
 
 -- no counter passes 2^64 - 1
 pub record Fits (nodes : List NodeRow) (counters : List Counter) (change : Change) : Type 0 where

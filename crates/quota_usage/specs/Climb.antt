@@ -28,6 +28,11 @@ abbrev pub climbed : List NodeRow → ℕ → ℕ → ℕ → List Counter → L
 climbed nodes start minus plus counters =
     map (λ counter. if is_under nodes counter.folder start then amended_counter minus plus counter else counter) counters
 
+-- the same, if there is a way up
+abbrev pub climbed_from : List NodeRow → Option ℕ → ℕ → ℕ → List Counter → List Counter
+climbed_from nodes None minus plus counters = counters
+climbed_from nodes (Some start) minus plus counters = climbed nodes start minus plus counters
+
 -- the refusal by a quota, if it refuses that its counter is amended
 abbrev pub judged : ℕ → ℕ → QuotaRow → ℕ → Option Exceeded
 judged minus plus quota bytes =

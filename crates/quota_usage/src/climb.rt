@@ -1,11 +1,11 @@
 //! The way up to the root.
 
-ghost use Rattle.std.specs.Prelude.{◌≡◌, ◌+◌, ◌*◌, ◌≤◌, true, length, map};
+ghost use Rattle.std.specs.Prelude.{◌≡◌, ℕ, ◌+◌, ◌≤◌, Some, true, length, map};
 ghost use Rattle.fsrm_model.proofs.nodes.ChainLaws.{IsTree};
 ghost use Rattle.fsrm_base.specs.Keyed.{has_row};
 ghost use Rattle.fsrm_model.specs.nodes.Tree.{number as key, chain, parent_of};
-ghost use Rattle.quota_usage.specs.Charge.{charged_counter, IsChange, Fits, height};
-ghost use Rattle.quota_usage.specs.Climb.{FitsAbove, climbed};
+ghost use Rattle.quota_usage.specs.Charge.{charged_counter, lost_by, IsChange, Fits, height};
+ghost use Rattle.quota_usage.specs.Climb.{FitsAbove, climbed, climbed_from};
 
 use crate::change::Change;
 use crate::usage::Usage;
@@ -41,7 +41,7 @@ pub fn height<L: Ledger>(tree: &Tree, node: u32, steps: &mut Steps<L>) -> u64
 }
 
 /// Takes bytes from the counter of each folder on the way up from a node, and then gives it others. It
-/// takes a look for each node on the way.
+/// takes a look for each node on the way, if there are counters.
 pub fn climb<L: Ledger>(
     counters: &mut Usage,
     tree: &Tree,
@@ -56,10 +56,39 @@ pub fn climb<L: Ledger>(
     ensures made { counters.new ≡ climbed tree.now.nodes start minus plus counters.old }
     ensures looks { steps.new ≤ steps.old + length (chain tree.now.nodes start) }
 {
+    if counters.is_empty() {
+        return;
+    }
     let mut way = tree.way_up(start);
     while let Some(at) = way.next(steps) {
         counters.amend(at, minus, plus);
     }
+}
+
+/// Takes the bytes of a change from the folder that loses them and each one above it, unless the change gives bytes to
+/// the same folder: then one climb from there is to do both. The answer is how many bytes that climb is to take.
+pub fn take<L: Ledger>(
+    counters: &mut Usage,
+    tree: &Tree,
+    change: &Change,
+    steps: &mut Steps<L>,
+) -> u64
+    requires tree { IsTree tree.now.nodes }
+    requires change { IsChange tree.now.nodes change.now }
+    requires fits { Fits tree.now.nodes counters.old change.now }
+    ensures lost { (to : ℕ) → change.now.to ≡ Some to → result ≡ lost_by change.now to }
+    ensures left { climbed_from tree.now.nodes change.now.to result change.now.plus counters.new ≡ map (charged_counter tree.now.nodes change.now) counters.old }
+    ensures fits { (to : ℕ) → change.now.to ≡ Some to → FitsAbove tree.now.nodes counters.new to result change.now.plus }
+    ensures looks { steps.new ≤ steps.old + height tree.now.nodes change.now.from }
+{
+    let Some(from) = change.from else {
+        return 0;
+    };
+    if change.to == Some(from) {
+        return change.minus;
+    }
+    climb(counters, tree, from, change.minus, 0, steps);
+    0
 }
 
 /// Makes a change of all counters that it touches.
@@ -68,25 +97,11 @@ pub fn charge<L: Ledger>(counters: &mut Usage, tree: &Tree, change: &Change, ste
     requires change { IsChange tree.now.nodes change.now }
     requires fits { Fits tree.now.nodes counters.old change.now }
     ensures made { counters.new ≡ map (charged_counter tree.now.nodes change.now) counters.old }
-    ensures looks { steps.new ≤ steps.old + 2 * (height tree.now.nodes change.now.from + height tree.now.nodes change.now.to) }
+    ensures looks { steps.new ≤ steps.old + (height tree.now.nodes change.now.from + height tree.now.nodes change.now.to) }
 {
-    if counters.is_empty() {
-        return;
-    }
-    let Some(from) = change.from else {
-        if let Some(to) = change.to {
-            climb(counters, tree, to, 0, change.plus, steps);
-        }
-        return;
-    };
+    let minus = take(counters, tree, change, steps);
     let Some(to) = change.to else {
-        climb(counters, tree, from, change.minus, 0, steps);
         return;
     };
-    if from == to {
-        climb(counters, tree, to, change.minus, change.plus, steps);
-        return;
-    }
-    climb(counters, tree, from, change.minus, 0, steps);
-    climb(counters, tree, to, 0, change.plus, steps);
+    climb(counters, tree, to, minus, change.plus, steps);
 }

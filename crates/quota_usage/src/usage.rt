@@ -5,12 +5,12 @@ ghost use Rattle.fsrm_base.specs.Keyed.{has_row, is_ascending, with_change};
 ghost use Rattle.fsrm_model.specs.values.Limits.{most_quotas};
 ghost use Rattle.fsrm_model.specs.objects.Quota.{folder_of};
 ghost use Rattle.fsrm_model.specs.store.Valid.{IsVolume};
-ghost use Rattle.quota_usage.specs.Charge.{charged_counter, over_by, exceeded_by, IsChange, Fits, height};
-ghost use Rattle.quota_usage.specs.Climb.{amended, amended_counter};
+ghost use Rattle.quota_usage.specs.Charge.{charged_counter, lost_by, over_by, exceeded_by, IsChange, Fits, height};
+ghost use Rattle.quota_usage.specs.Climb.{FitsAbove, amended, amended_counter, climbed_from};
 ghost use Rattle.quota_usage.specs.Counters.{counted, used_in, with_counter, without_counter};
 
 use crate::change::{Change, Counter, Exceeded};
-use crate::climb::charge;
+use crate::climb::{charge, take};
 use crate::counters::{Amendment, Counters};
 use crate::refusal::refusal;
 use fsrm_model::{Ledger, NoMemory, Steps};
@@ -81,13 +81,14 @@ impl Usage {
         Some(counter.bytes)
     }
 
-    /// Takes bytes from a folder's counter, as many as it has at most, and then gives it others. If the
-    /// folder has none nothing is done.
-    pub(crate) fn amend(&mut self, folder: u32, minus: u64, plus: u64)
+    /// Takes bytes from a folder's counter, as many as it has at most, and then gives it others. The answer is how many
+    /// it has then. If the folder has no counter nothing is done.
+    pub fn amend(&mut self, folder: u32, minus: u64, plus: u64) -> Option<u64>
         requires { (bytes : ℕ) → used_in self.old folder ≡ Some bytes → amended minus plus bytes < 2 ^ 64 }
-        ensures { self.new ≡ with_change counted folder (amended_counter minus plus) self.old }
+        ensures made { self.new ≡ with_change counted folder (amended_counter minus plus) self.old }
+        ensures used { result ≡ used_in self.new folder }
     {
-        self.counters.change(folder, &Amendment { minus, plus });
+        self.counters.change(folder, &Amendment { minus, plus })
     }
 
     /// Ok if no quota refuses a change, else the refusal by the deepest one that does. A quota refuses
@@ -115,14 +116,28 @@ impl Usage {
         }
     }
 
-    /// Makes a change of all counters that it touches. It takes no more than 2 looks for each node on the
-    /// two ways up.
+    /// Takes the bytes of a change from the folder that loses them and each one above it, unless the change gives bytes
+    /// to the same folder: then what gives them is to take as many as the answer says, on one way up. What is left of
+    /// the change is that way up. It takes no more than a look for each node on the way.
+    pub fn take<L: Ledger>(&mut self, tree: &Tree, change: &Change, steps: &mut Steps<L>) -> u64
+        requires volume { IsVolume tree.now.size tree.now.nodes }
+        requires change { IsChange tree.now.nodes change.now }
+        requires fits { Fits tree.now.nodes self.old change.now }
+        ensures lost { (to : ℕ) → change.now.to ≡ Some to → result ≡ lost_by change.now to }
+        ensures left { climbed_from tree.now.nodes change.now.to result change.now.plus self.new ≡ map (charged_counter tree.now.nodes change.now) self.old }
+        ensures fits { (to : ℕ) → change.now.to ≡ Some to → FitsAbove tree.now.nodes self.new to result change.now.plus }
+        ensures looks { steps.new ≤ steps.old + height tree.now.nodes change.now.from }
+    {
+        take(self, tree, change, steps)
+    }
+
+    /// Makes a change of all counters that it touches. It takes no more than a look for each node on the two ways up.
     pub fn charge<L: Ledger>(&mut self, tree: &Tree, change: &Change, steps: &mut Steps<L>)
         requires volume { IsVolume tree.now.size tree.now.nodes }
         requires change { IsChange tree.now.nodes change.now }
         requires fits { Fits tree.now.nodes self.old change.now }
         ensures made { self.new ≡ map (charged_counter tree.now.nodes change.now) self.old }
-        ensures looks { steps.new ≤ steps.old + 2 * (height tree.now.nodes change.now.from + height tree.now.nodes change.now.to) }
+        ensures looks { steps.new ≤ steps.old + (height tree.now.nodes change.now.from + height tree.now.nodes change.now.to) }
     {
         charge(self, tree, change, steps);
     }

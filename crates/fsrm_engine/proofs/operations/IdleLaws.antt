@@ -282,7 +282,7 @@ idle_charged {level} w quotas counters charged x change g is =
     subst (λ (cs : List Counter). IsCounted w.size w.nodes quotas cs level) (sym is) g.engine
 
 -- how many looks the removal of a file takes
-pub looks_at_file : (v w : Volume) (path : List (List ℕ)) (x start seen followed gone last : ℕ) (view : NodeView) → IsVolume v.size v.nodes → resolve v.nodes path ≡ Some x → MayGo v.nodes x → w ≡ without_node v x → Shows view v.nodes x → seen ≡ start + 1 → followed ≤ seen + 2 * length (chain v.nodes x) → gone ≤ followed + 44 → last ≤ gone + 2 * (height w.nodes (Some view.parent) + 0) → last ≤ start + (4 * length path + 60)
+pub looks_at_file : (v w : Volume) (path : List (List ℕ)) (x start seen followed gone last : ℕ) (view : NodeView) → IsVolume v.size v.nodes → resolve v.nodes path ≡ Some x → MayGo v.nodes x → w ≡ without_node v x → Shows view v.nodes x → seen ≡ start + 1 → followed ≤ seen + 2 * length (chain v.nodes x) → gone ≤ followed + 44 → last ≤ gone + (height w.nodes (Some view.parent) + 0) → last ≤ start + (4 * length path + 60)
 looks_at_file v w path x start seen followed gone last view k h may made shows a f b c =
     let K = v.size in
     let nodes = v.nodes in

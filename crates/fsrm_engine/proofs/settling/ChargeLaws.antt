@@ -20,13 +20,13 @@ use Rattle.fsrm_objects.specs.Tables.{Tables}
 use Rattle.number_set.specs.Numbers.{Numbers, no_numbers}
 use Rattle.quota_usage.specs.declared.change.Change.{Change}
 use Rattle.quota_usage.specs.declared.change.Counter.{Counter}
-use Rattle.quota_usage.specs.Charge.{charged as charged_bytes, charged_counter, is_above}
+use Rattle.quota_usage.specs.Charge.{charged as charged_bytes, charged_counter, is_above, lost_by}
 use Rattle.thresholds.specs.Marked.{Marked}
 use Rattle.thresholds.specs.Settled.{Settles, are_orderly, crosses, has_orderly_lists}
 use Rattle.thresholds.proofs.OrderLaws.{orderly}
 use Rattle.thresholds.proofs.SettleLaws.{settles_none}
 use Rattle.fsrm_engine.specs.declared.parts.Parts.{Parts}
-use Rattle.fsrm_engine.specs.Crossing.{Drops, IsCovered, Notes, acts_at, counted_acts, gained_acts, is_crossing, lost_by, used_acts}
+use Rattle.fsrm_engine.specs.Crossing.{Drops, IsCovered, Notes, acts_at, counted_acts, gained_acts, is_crossing, used_acts}
 use Rattle.fsrm_engine.specs.Due.{charged_acts, is_kept}
 use Rattle.fsrm_engine.specs.Machine.{IsCalm, Ran, charged_parts}
 use Rattle.fsrm_engine.specs.Peaks.{raised_above}

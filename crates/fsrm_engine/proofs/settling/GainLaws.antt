@@ -17,10 +17,10 @@ use Rattle.fsrm_model.specs.nodes.Tree.{is_under}
 use Rattle.fsrm_model.proofs.thresholds.SettleLaws.{no_acts}
 use Rattle.quota_usage.specs.declared.change.Change.{Change}
 use Rattle.quota_usage.specs.declared.change.Counter.{Counter}
-use Rattle.quota_usage.specs.Charge.{charged, charged_counter, is_above}
+use Rattle.quota_usage.specs.Charge.{charged, charged_counter, is_above, lost_by}
 use Rattle.quota_usage.specs.Counters.{counted, used_in}
 use Rattle.thresholds.specs.Settled.{crosses, crosses_any}
-use Rattle.fsrm_engine.specs.Crossing.{IsCovered, gained_acts, is_crossing, lost_by, used_acts, used_before}
+use Rattle.fsrm_engine.specs.Crossing.{IsCovered, gained_acts, is_crossing, used_acts, used_before}
 use Rattle.fsrm_engine.specs.Due.{is_kept}
 use Rattle.fsrm_engine.proofs.settling.CalmLaws.{none_crosses}
 

@@ -1,9 +1,8 @@
 -- Queues, in which each folder waits once.
-use Rattle.std.proofs.Common.{◌≡◌, ℕ, ◌==◌, Bool, true, false, cond, not, ◌||◌, List, [], ◌∷◌, ◌++◌, ◌⊎◌, refl, sym, ◌∙◌, ap, subst, inl, inr, Option, Some, None}
+use Rattle.std.proofs.Common.{◌≡◌, ℕ, ◌==◌, Bool, true, false, cond, not, ◌||◌, List, [], ◌∷◌, ◌++◌, ◌⊎◌, refl, sym, ◌∙◌, ap, subst, inl, inr, Some}
 use Rattle.std.proofs.lemmas.List.Folds.{list_any-append}
 use Rattle.std.specs.Prelude.{is_some}
 use Rattle.std.specs.List.{remove}
-use Rattle.std.specs.Option.{option_eq}
 use Rattle.fsrm_base.specs.Numbers.{is_in, each_once, without_number}
 use Rattle.fsrm_model.specs.objects.QuotaStates.{head, same_head}
 use Rattle.fsrm_base.proofs.TestLaws.{is_or_not, clash, both, both_true, is_or, is_false, eq_is, eq_same, eq_turned, neither, or_later}
@@ -127,14 +126,6 @@ nobody (n ∷ ns) h = cc
 pub somebody : (queue : List ℕ) → is_some (head queue) ≡ true → queue ≡ [] → ⊥
 somebody [] h e = cc
 somebody (n ∷ ns) h e = cc
-
--- whether a head is this folder, by its test
-pub tested : (first : Option ℕ) (folder : ℕ) → option_eq (λ a b. a == b) first (Some folder) ≡ true → first ≡ Some folder
-tested None folder h = cc
-tested (Some n) folder h = ap (λ k. Some k) (eq_is n folder h)
-
-pub not_tested : (first : Option ℕ) (folder : ℕ) → option_eq (λ a b. a == b) first (Some folder) ≡ false → first ≡ Some folder → ⊥
-not_tested first folder h e = clash (option_eq (λ a b. a == b) first (Some folder)) (ap (λ (o : Option ℕ). option_eq (λ a b. a == b) o (Some folder)) e ∙ eq_same folder) h
 
 -- the one at the first place is removed
 pub first_removed : (folder : ℕ) (queue : List ℕ) → each_once queue ≡ true → head queue ≡ Some folder → remove queue 0 ≡ without_number folder queue

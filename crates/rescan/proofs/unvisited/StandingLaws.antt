@@ -1,13 +1,12 @@
 -- Where a node stands in a scan, from the way up to the root.
-use Rattle.std.proofs.Common.{◌≡◌, ℕ, ◌==◌, Bool, true, false, cond, ◌||◌, List, ◌∷◌, Option, Some, None, refl, sym, ◌∙◌, ap, subst, inl, inr, eqb}
+use Rattle.std.proofs.Common.{◌≡◌, ℕ, ◌==◌, Bool, true, false, cond, ◌||◌, List, ◌∷◌, Some, refl, sym, ◌∙◌, ap, subst, inl, inr}
 use Rattle.fsrm_model.specs.declared.row.NodeRow.{NodeRow}
 use Rattle.fsrm_base.specs.Numbers.{is_in}
 use Rattle.fsrm_model.specs.nodes.Tree.{is_under}
-use Rattle.fsrm_base.proofs.TestLaws.{is_apart, is_or_not, clash, not_true, eq_is, eq_same}
+use Rattle.fsrm_base.proofs.TestLaws.{is_apart, is_or_not, clash, not_true, eq_is}
 use Rattle.fsrm_model.proofs.nodes.ChainLaws.{IsTree, Has}
 use Rattle.fsrm_model.proofs.nodes.Below.{chain_root, each_above}
 use Rattle.std.specs.Prelude.{unwrap_or}
-use Rattle.std.specs.Option.{option_eq}
 use Rattle.std.specs.List.{list_any}
 use Rattle.fsrm_model.proofs.nodes.Climbs.{under_own}
 use Rattle.fsrm_model.proofs.valid.ValidLaws.{folder_has}
@@ -68,11 +67,3 @@ pub below_left : (nodes : List NodeRow) (f : Front) → AreTops nodes f → (at 
 below_left nodes f a at rest way is other =
     ap (λ (ns : List ℕ). is_in ns (scanned f)) is
     ∙ ap (λ b. b || is_in rest (scanned f)) (is_apart at (scanned f) (λ e. other (unwrapped f.folder a.active ∙ ap (λ j. Some j) (sym e))))
-
--- the scanned folder, as it is compared
-pub same_folder : (o : Option ℕ) (n : ℕ) → option_eq eqb o (Some n) ≡ true → o ≡ Some n
-same_folder None n h = cc
-same_folder (Some s) n h = ap (λ j. Some j) (eq_is s n h)
-
-pub other_folder : (o : Option ℕ) (n : ℕ) → option_eq eqb o (Some n) ≡ false → o ≡ Some n → ⊥
-other_folder o n h e = clash (n == n) (eq_same n) (sym (ap (λ p. option_eq eqb p (Some n)) e) ∙ h)

@@ -8,7 +8,7 @@ use Rattle.fsrm_engine.proofs.due.settle_noted.Goals as goal
 
 pub loop-place-init : goal.loop-place-init
 loop-place-init c = record {
-  settled = settled_none (gained_acts c.args.usage.now c.args.minus c.args.plus c.args.run_limit c.args.moment) c.args.moment c.args.marks.now c.args.objects.now c.args.crossing.now.members c.requires.log c.requires.marked c.requires.noted c.requires.orderly c.requires.within;
+  settled = settled_none (gained_acts c.args.usage.now c.args.gain.minus c.args.gain.plus c.args.run_limit c.args.gain.moment) c.args.gain.moment c.args.marks.now c.args.objects.now c.args.crossing.now.members c.requires.log c.requires.marked c.requires.noted c.requires.orderly c.requires.within;
   sorted = c.requires.sorted;
   bound = refl;
 }
@@ -33,15 +33,15 @@ loop-place-smaller c =
 
 pub loop-place-preserved : goal.loop-place-preserved
 loop-place-preserved c =
-    let f = gained_acts c.args.usage.now c.args.minus c.args.plus c.args.run_limit c.args.moment in
+    let f = gained_acts c.args.usage.now c.args.gain.minus c.args.gain.plus c.args.run_limit c.args.gain.moment in
     let q = c.quota_at.result.now in
     let least = sym c.take_least.ensures.least ∙ c.in-Some.is in
     let taken = taken_is c.loop-place.crossing c.take_least.new.self c.in-Some.place c.loop-place.invariant.settled.set least c.take_least.ensures.rest in
-    let before : c.map-before.result ≡ option_map (used_before c.args.minus c.args.plus) c.used-used.result = search rules in
-    let is = gained_used c.args.usage.now c.args.minus c.args.plus c.args.run_limit c.args.moment q c.map-before.result c.used-used.result c.used-used.ensures before in
+    let before : c.map-before.result ≡ option_map (used_before c.args.gain.minus c.args.gain.plus) c.used-used.result = search rules in
+    let is = gained_used c.args.usage.now c.args.gain.minus c.args.gain.plus c.args.run_limit c.args.gain.moment q c.map-before.result c.used-used.result c.used-used.ensures before in
     record {
-      settled = subst (Settled f c.args.moment c.args.marks.now c.settle.new.self c.args.objects.now c.settle.new.objects c.args.crossing.now.members) (sym (ap (λ (n : Numbers). n.members) taken))
-          (settled_next f c.args.moment c.args.marks.now c.loop-place.marks c.settle.new.self c.args.objects.now c.loop-place.objects c.settle.new.objects c.args.crossing.now.members c.loop-place.crossing.members c.in-Some.place q
+      settled = subst (Settled f c.args.gain.moment c.args.marks.now c.settle.new.self c.args.objects.now c.settle.new.objects c.args.crossing.now.members) (sym (ap (λ (n : Numbers). n.members) taken))
+          (settled_next f c.args.gain.moment c.args.marks.now c.loop-place.marks c.settle.new.self c.args.objects.now c.loop-place.objects c.settle.new.objects c.args.crossing.now.members c.loop-place.crossing.members c.in-Some.place q
           c.loop-place.invariant.settled least c.quota_at.ensures c.map-before.result c.used-used.result c.args.run_limit is c.settle.ensures.settled);
       sorted = c.settle.ensures.sorted;
       bound = ap (λ (n : Numbers). n.bound) c.take_least.ensures.rest ∙ c.loop-place.invariant.bound;
@@ -49,7 +49,7 @@ loop-place-preserved c =
 
 pub returns-clause-settled : goal.returns-clause-settled
 returns-clause-settled c =
-    settled_all (gained_acts c.args.usage.now c.args.minus c.args.plus c.args.run_limit c.args.moment) c.args.moment c.args.marks.now c.loop-place.marks c.args.objects.now c.loop-place.objects c.args.crossing.now.members c.loop-place.crossing.members c.loop-place.invariant.settled
+    settled_all (gained_acts c.args.usage.now c.args.gain.minus c.args.gain.plus c.args.run_limit c.args.gain.moment) c.args.gain.moment c.args.marks.now c.loop-place.marks c.args.objects.now c.loop-place.objects c.args.crossing.now.members c.loop-place.crossing.members c.loop-place.invariant.settled
     (none_first c.loop-place.crossing.members (sym c.take_least.ensures.least ∙ c.in_default.is))
 
 pub returns-clause-sorted : goal.returns-clause-sorted

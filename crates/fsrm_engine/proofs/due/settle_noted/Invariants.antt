@@ -7,7 +7,7 @@ use Rattle.fsrm_engine.proofs.due.settle_noted.Given as goal
 -- some places are left, whose quotas are as they were
 abbrev pub invariant-loop-place : goal.invariant-loop-place
 invariant-loop-place l = record {
-  settled : Settled (gained_acts l.usage l.minus l.plus l.run_limit l.moment) l.moment l.fn.marks l.marks l.fn.objects l.objects l.fn.crossing.members l.crossing.members;
+  settled : Settled (gained_acts l.usage l.gain.minus l.gain.plus l.run_limit l.gain.moment) l.gain.moment l.fn.marks l.marks l.fn.objects l.objects l.fn.crossing.members l.crossing.members;
   sorted : is_set l.marks.numbers ≡ true;
   bound : l.crossing.bound ≡ l.fn.crossing.bound;
 }

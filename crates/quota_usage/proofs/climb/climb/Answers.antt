@@ -1,10 +1,16 @@
 use Rattle.std.proofs.Common.{ℕ, List, length, refl, sym, ◌∙◌, ap, arith}
 use Rattle.fsrm_base.specs.Numbers.{is_in}
 use Rattle.fsrm_base.proofs.ChangedRows.{changed_rows, changed_none, changed_first}
-use Rattle.quota_usage.specs.Climb.{amended_counter}
+use Rattle.quota_usage.specs.Climb.{amended_counter, climbed}
 use Rattle.quota_usage.specs.Counters.{counted}
 use Rattle.quota_usage.proofs.ClimbLaws.{fits_first, fits_rest}
+use Rattle.quota_usage.proofs.CounterLaws.{no_counters}
 use Rattle.quota_usage.proofs.climb.climb.Goals as goal
+
+pub returns-then-is_empty-clause-made : goal.returns-then-is_empty-clause-made
+returns-then-is_empty-clause-made g c =
+    let none = no_counters c.args.counters.now (sym c.is_empty.ensures ∙ c.if-is_empty.true) in
+    none ∙ sym (ap (climbed c.args.tree.now.nodes c.args.start c.args.minus c.args.plus) none)
 
 pub loop-at-init : goal.loop-at-init
 loop-at-init g c =
@@ -26,9 +32,9 @@ loop-at-preserved g c =
     let is = c.in-Some.ensures.some in
     let change = amended_counter c.args.minus c.args.plus in
     record {
-      fits = fits_rest l.counters c.amend.new.self l.way rest c.in-Some.at c.args.minus c.args.plus is c.in-Some.ensures.apart c.amend.ensures l.invariant.fits;
+      fits = fits_rest l.counters c.amend.new.self l.way rest c.in-Some.at c.args.minus c.args.plus is c.in-Some.ensures.apart c.amend.ensures.made l.invariant.fits;
       made =
-          ap (changed_rows counted change rest) c.amend.ensures
+          ap (changed_rows counted change rest) c.amend.ensures.made
           ∙ (changed_first counted change (λ r. refl) c.in-Some.at rest c.in-Some.ensures.apart l.counters
           ∙ (sym (ap (λ (ns : List ℕ). changed_rows counted change ns l.counters) is) ∙ l.invariant.made));
       looks = omega (arith, c.in-Some.ensures.count, l.invariant.looks);

@@ -1,5 +1,5 @@
-use Rattle.std.proofs.Common.{◌≡◌, ◌<◌, ◌≤◌, ℕ, List, false, length, sym, ◌∙◌, ap, subst, arith}
-use Rattle.fsrm_base.specs.Keyed.{has_row, least_free}
+use Rattle.std.proofs.Common.{◌≡◌, List, false, length, ◌∙◌, ap, subst, arith}
+use Rattle.fsrm_base.specs.Keyed.{has_row}
 use Rattle.fsrm_base.proofs.Order.{least_free_is}
 use Rattle.fsrm_model.specs.declared.row.GroupRow.{GroupRow}
 use Rattle.fsrm_model.specs.values.Patterns.{group_number}

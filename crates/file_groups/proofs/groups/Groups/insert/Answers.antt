@@ -1,4 +1,4 @@
-use Rattle.std.proofs.Common.{List, ◌≡◌, ◌≤◌, ◌++◌, ◌∷◌, [], length, ◌∙◌, ap, arith, subst}
+use Rattle.std.proofs.Common.{List, ◌≤◌, ◌++◌, ◌∷◌, [], length, ◌∙◌, ap, arith, subst}
 use Rattle.std.specs.List.{list_any}
 use Rattle.fsrm_base.specs.Keyed.{has_row, with_row}
 use Rattle.fsrm_base.proofs.Order.{length-with_row}

@@ -1,8 +1,8 @@
-use Rattle.std.proofs.Common.{List, ◌≡◌, Some, sym, ◌∙◌, ap}
+use Rattle.std.proofs.Common.{◌≡◌, Some, sym, ◌∙◌, ap}
 use Rattle.std.specs.Option.{option_copied}
 use Rattle.fsrm_base.specs.Keyed.{has_row, row_of}
 use Rattle.fsrm_model.specs.declared.row.GroupRow.{GroupRow}
-use Rattle.fsrm_model.specs.values.Patterns.{group_number, is_group, regrouped, with_patterns}
+use Rattle.fsrm_model.specs.values.Patterns.{group_number, is_group, with_patterns}
 use Rattle.row_table.specs.Held.{Held}
 use Rattle.file_groups.proofs.GroupLaws.{regrouped_is}
 use Rattle.file_groups.proofs.PartLaws.{group_small}

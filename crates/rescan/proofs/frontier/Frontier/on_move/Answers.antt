@@ -7,9 +7,9 @@ use Rattle.fsrm_model.proofs.nodes.Keeps.{tree_of}
 use Rattle.fsrm_base.proofs.Look.{has_found}
 use Rattle.fsrm_base.proofs.TestLaws.{clash, eq_same}
 use Rattle.fsrm_model.proofs.valid.ValidLaws.{folder_has, found_parent}
+use Rattle.quota_usage.proofs.OptionTests.{is_number, no_number}
 use Rattle.rescan.proofs.moved.FolderArms.{scanned_follows, folder_follows}
 use Rattle.rescan.proofs.moved.MoveArms.{Goes, below_counted, file_follows, share_same, share_counted, share_fits}
-use Rattle.rescan.proofs.unvisited.StandingLaws.{same_folder, other_folder}
 use Rattle.rescan.proofs.unvisited.Tops.{tops_of}
 use Rattle.rescan.proofs.frontier.Frontier.on_move.Goals as goal
 
@@ -19,7 +19,7 @@ returns-then-eq-clause-follows g c =
     let f = c.args.self.now in
     let row = has_found number c.args.node v.nodes c.requires.there in
     let goes : Goes v f c.args.node c.args.folder = record { stands = c.requires.stands; row = row.row; found = row.is; inner = c.requires.inner; folder = c.requires.folder; apart = c.requires.apart } in
-    λ name w. scanned_follows v f c.args.node c.args.folder name goes (sym (ap (λ f. f.folder) c.self.view_is) ∙ same_folder c.self.inside.folder c.args.node (sym c.eq.ensures ∙ c.if-eq.true)) w
+    λ name w. scanned_follows v f c.args.node c.args.folder name goes (sym (ap (λ f. f.folder) c.self.view_is) ∙ is_number c.self.inside.folder c.args.node (sym c.eq.ensures ∙ c.if-eq.true)) w
 
 pub standing-after-requires-clause-tree : goal.standing-after-requires-clause-tree
 standing-after-requires-clause-tree g c = tree_of c.args.tree.now.size c.args.tree.now.nodes c.requires.stands.volume
@@ -84,7 +84,7 @@ returns-then-view-clause-follows g c =
     let goes : Goes v f c.args.node c.args.folder = record { stands = c.requires.stands; row = shows.row; found = shows.found; inner = c.requires.inner; folder = c.requires.folder; apart = c.requires.apart } in
     λ name w. folder_follows v f c.move_folder.new.self c.args.node c.args.folder name c.standing-before.result c.standing-after.result goes
     (sym shows.is.folder ∙ c.if-view.true)
-    (λ e. other_folder c.self.inside.folder c.args.node (sym c.eq.ensures ∙ c.if-eq.false) (ap (λ f. f.folder) c.self.view_is ∙ e))
+    (λ e. no_number c.self.inside.folder c.args.node (sym c.eq.ensures ∙ c.if-eq.false) (ap (λ f. f.folder) c.self.view_is ∙ e))
     w c.standing-before.ensures.value c.standing-after.ensures.value c.move_folder.ensures.goes
 
 pub returns-else-view-clause-follows : goal.returns-else-view-clause-follows

@@ -2,8 +2,9 @@ use Rattle.std.proofs.Common.{◌≡◌, ℕ, List, length, false, sym, ◌∙�
 use Rattle.std.specs.List.{list_any}
 use Rattle.fsrm_base.specs.Numbers.{is_in}
 use Rattle.fsrm_model.proofs.nodes.Climbs.{IsUp, up_chain, up_rest}
+use Rattle.quota_usage.proofs.OptionTests.{is_number, no_number}
 use Rattle.rescan.specs.Frontiers.{scanned}
-use Rattle.rescan.proofs.unvisited.StandingLaws.{above_left, at_end, at_scanned, at_top, below_left, same_folder, other_folder}
+use Rattle.rescan.proofs.unvisited.StandingLaws.{above_left, at_end, at_scanned, at_top, below_left}
 use Rattle.rescan.proofs.frontier.Frontier.standing.Goals as goal
 
 pub loop-at-init : goal.loop-at-init
@@ -28,7 +29,7 @@ returns-then-eq-clause-value g c =
     at_scanned c.args.tree.now.nodes c.args.self.now c.requires.tree c.requires.tops c.args.node c.in-Some.at
     (c.loop-at.invariant.above ∙ ap (list_any (is_in c.args.self.now.tops)) here.all) (c.loop-at.invariant.below ∙ ap (λ (ns : List ℕ). is_in ns (scanned c.args.self.now)) here.all)
     (sym (ap (λ f. is_in f.tops c.in-Some.at) c.self.view_is) ∙ (sym c.contains.ensures ∙ c.if-contains.false))
-    (sym (ap (λ f. f.folder) c.self.view_is) ∙ same_folder c.self.inside.folder c.in-Some.at (sym c.eq.ensures ∙ c.if-eq.true))
+    (sym (ap (λ f. f.folder) c.self.view_is) ∙ is_number c.self.inside.folder c.in-Some.at (sym c.eq.ensures ∙ c.if-eq.true))
 
 pub loop-at-preserved : goal.loop-at-preserved
 loop-at-preserved g c =
@@ -43,7 +44,7 @@ loop-at-preserved g c =
       below =
           c.loop-at.invariant.below
           ∙ below_left nodes c.args.self.now c.requires.tops at rest c.loop-at.way is
-          (λ e. other_folder c.self.inside.folder at (sym c.eq.ensures ∙ c.if-eq.false) (ap (λ f. f.folder) c.self.view_is ∙ e));
+          (λ e. no_number c.self.inside.folder at (sym c.eq.ensures ∙ c.if-eq.false) (ap (λ f. f.folder) c.self.view_is ∙ e));
       looks = omega (arith, c.in-Some.ensures.count, c.loop-at.invariant.looks);
     }
 
