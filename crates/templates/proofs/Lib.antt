@@ -1,3 +1,4 @@
 pub mod PartLaws
 pub mod HeldLaws
 pub mod UpdateLaws
+pub mod ReachedLaws

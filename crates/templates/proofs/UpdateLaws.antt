@@ -104,6 +104,7 @@ at_start mode old new now ascending rows made =
 -- the row at a place is what becomes of a quota that is in the tables. Once both have changed places, one more is done
 pub record IsNext (new : TemplateRow) (reached : List QuotaRow) (after now : Tables) (rows : List QuotaRow) (place : ℕ) (row : QuotaRow) : Type 0 where
   pub was : QuotaRow
+  pub at : slice_get reached place ≡ Some was
   pub is : row ≡ as_template new was
   pub there : row_of folder_of row.folder now.quotas ≡ Some was
   pub done : (then : Tables) (old : QuotaRow) → then ≡ with_quotas now (put folder_of now.quotas row) → row_of folder_of row.folder now.quotas ≡ Some old → IsHalfway new reached after then (set rows place old) (place + 1)
@@ -137,6 +138,7 @@ module _ (new : TemplateRow) (reached : List QuotaRow) (after now : Tables) (row
       take_more reached place f.row within ∙ ap (λ (q : QuotaRow). done ++ q ∷ []) (get_or_from_slice_get reached place f.row f.row f.is) in
       record {
         was = f.row;
+        at = f.is;
         is = is;
         there = is_there;
         done = λ then old is_put replaced. record {

@@ -1,3 +1,4 @@
 pub mod Held
 pub mod Faults
 pub mod Kept
+pub mod Reached

@@ -1,21 +1,24 @@
 //! Quotas that are derived from a template, and what its change makes of them.
 
-ghost use Rattle.std.specs.Prelude.{◌≡◌, ◌+◌, IfOk, IfErr, OnOk, OnErr, None, Some, true, filter, map, nat_lt, option_map};
-ghost use Rattle.fsrm_base.specs.Keyed.{has_row, is_ascending};
+ghost use Rattle.std.specs.Prelude.{◌≡◌, ◌+◌, IfOk, IfErr, OnOk, OnErr, None, Some, true, false, filter, map, nat_lt, option_map};
+ghost use Rattle.fsrm_base.specs.Keyed.{has_row, is_ascending, row_of};
 ghost use Rattle.fsrm_model.specs.declared.row.QuotaRow.{QuotaRow};
 ghost use Rattle.fsrm_model.specs.declared.row.TemplateRow.{TemplateRow};
 ghost use Rattle.fsrm_model.specs.objects.Quota.{folder_of};
 ghost use Rattle.fsrm_model.specs.objects.Templates.{as_template, derived, is_reached, is_template, template_name, template_number, template_of, updated};
+ghost use Rattle.fsrm_model.specs.objects.Thresholds.{are_too_many};
 ghost use Rattle.fsrm_model.specs.values.Texts.{template_bytes};
-ghost use Rattle.fsrm_objects.specs.Tables.{quota_texts};
+ghost use Rattle.fsrm_objects.specs.Tables.{has_short_texts, quota_texts, with_other as with_quota_put};
 ghost use Rattle.templates.specs.Faults.{IsFault, modify_fault, update_fault};
 ghost use Rattle.templates.specs.Held.{reached_by, updated_by, with_other};
+ghost use Rattle.templates.specs.Reached.{has_thresholds, stand_apart, were, whole};
 
 use crate::answer::TemplateFault;
-use crate::matching::is_reached;
+use crate::matching::{has_thresholds, is_reached};
+use crate::reached::{Reached, Was};
 use crate::rows::template_texts;
 use crate::templates::Templates;
-use fsrm_model::{Duplicate, List, NoMemory, QuotaRow, QuotaState, TemplateRow, Update};
+use fsrm_model::{Duplicate, List, NoMemory, QuotaRow, QuotaState, TemplateRow, Threshold, Update};
 use fsrm_objects::{Objects, threshold_texts};
 use std::alloc::Global;
 
@@ -52,12 +55,12 @@ impl Templates {
         row: TemplateRow,
         mode: Update,
         room: u32,
-    ) -> Result<List<QuotaRow>, TemplateFault>
+    ) -> Result<Reached, TemplateFault>
         requires named { option_map template_name (template_of self.old.templates row.number) ≡ Some row.name }
         requires valid { is_template row ≡ true }
         ensures ok { OnOk result (self.new ≡ with_other self.old row) }
         ensures quotas { OnOk result (objects.new ≡ record objects.old { quotas = updated_by self.old row mode objects.old.quotas }) }
-        ensures reached { IfOk result (λ reached. reached ≡ reached_by self.old row mode objects.old.quotas) }
+        ensures reached { IfOk result (λ reached. were reached ≡ reached_by self.old row mode objects.old.quotas) }
         ensures may { OnOk result (modify_fault self.old objects.old.quotas row mode room ≡ None) }
         ensures refused { IfErr result (λ fault. IsFault fault (modify_fault self.old objects.old.quotas row mode room)) }
         ensures err { OnErr result (self.new ≡ self.old) }
@@ -100,11 +103,11 @@ fn update(
     new: &TemplateRow,
     mode: Update,
     room: u32,
-) -> Result<List<QuotaRow>, TemplateFault>
+) -> Result<Reached, TemplateFault>
     requires old { is_template old.now ≡ true }
     requires new { is_template new.now ≡ true }
     ensures ok { OnOk result (objects.new ≡ record objects.old { quotas = map (updated mode old.now new.now) objects.old.quotas }) }
-    ensures reached { IfOk result (λ reached. reached ≡ filter (is_reached mode old.now) objects.old.quotas) }
+    ensures reached { IfOk result (λ reached. were reached ≡ filter (is_reached mode old.now) objects.old.quotas) }
     ensures may { OnOk result (update_fault old.now new.now objects.old.quotas mode room ≡ None) }
     ensures refused { IfErr result (λ fault. IsFault fault (update_fault old.now new.now objects.old.quotas mode room)) }
     ensures err { OnErr result (objects.new ≡ objects.old) }
@@ -112,13 +115,31 @@ fn update(
     if is_long_update(objects, old, new, mode, room) {
         return Err(TemplateFault::TextsFull);
     }
-    let mut quotas = updated_quotas(alloc, objects, old, new, mode)?;
-    for place in 0..quotas.len() {
-        let quota = quotas.get_mut(place).unwrap();
+    let mut thresholds = new.thresholds.copy(alloc)?;
+    let mut rows = updated_quotas(alloc, objects, old, new, mode)?;
+    for place in 0..rows.len() {
+        let was = rows.get_mut(place).unwrap();
         // That the texts of all of them fit was judged at once, before any was put (`is_long_update`).
-        objects.put_quota(quota);
+        exchange(objects, was, &mut thresholds);
     }
-    Ok(quotas)
+    Ok(Reached { rows, thresholds })
+}
+
+// Has a quota and that of its folder change places. If its thresholds stand apart, so do those of the other one then,
+// which are the same.
+fn exchange(objects: &mut Objects, was: &mut Was, thresholds: &mut List<Threshold>)
+    requires there { has_row folder_of was.old.row.folder objects.old.quotas ≡ true }
+    requires short { are_too_many (whole thresholds.old was.old).thresholds ≡ false }
+    requires texts { has_short_texts (whole thresholds.old was.old) ≡ true }
+    requires alike { was.old.same ≡ true → (quota : QuotaRow) → row_of folder_of was.old.row.folder objects.old.quotas ≡ Some quota → quota.thresholds ≡ thresholds.old }
+    ensures put { objects.new ≡ with_quota_put objects.old (whole thresholds.old was.old) }
+    ensures replaced { row_of folder_of was.old.row.folder objects.old.quotas ≡ Some (whole thresholds.old was.new) }
+    ensures same { was.new.same ≡ was.old.same }
+    ensures stay { thresholds.new ≡ thresholds.old }
+{
+    was.trade(thresholds);
+    objects.put_quota(&mut was.row);
+    was.trade(thresholds);
 }
 
 // Whether the texts of a template and of all quotas after its change, less those before it, are longer than the room.
@@ -154,36 +175,53 @@ fn updated_quotas(
     old: &TemplateRow,
     new: &TemplateRow,
     mode: Update,
-) -> Result<List<QuotaRow>, NoMemory>
-    ensures made { IfOk result (λ quotas. quotas ≡ map (as_template new.now) (filter (is_reached mode old.now) objects.now.quotas)) }
+) -> Result<List<Was>, NoMemory>
+    ensures made { IfOk result (λ rows. map (whole new.now.thresholds) rows ≡ map (as_template new.now) (filter (is_reached mode old.now) objects.now.quotas)) }
+    ensures alike { IfOk result (λ rows. map stand_apart rows ≡ map (has_thresholds new.now) (filter (is_reached mode old.now) objects.now.quotas)) }
     ensures ascending { is_ascending folder_of objects.now.quotas ≡ true }
 {
-    let mut quotas = List::new(alloc);
+    let mut rows = List::new(alloc);
     for place in 0..objects.quota_count() {
         let quota = objects.quota_at(place);
         if is_reached(mode, old, quota) {
-            quotas.push(as_template(alloc, new, quota)?)?;
+            rows.push(as_template(alloc, new, quota)?)?;
         }
     }
-    Ok(quotas)
+    Ok(rows)
 }
 
-// A quota with the limit, the type and the thresholds of a template.
-fn as_template(
+// A quota with the limit, the type and the thresholds of a template. If it has these thresholds already they stand
+// apart.
+fn as_template(alloc: Global, template: &TemplateRow, quota: &QuotaRow) -> Result<Was, NoMemory>
+    ensures row { IfOk result (λ was. whole template.now.thresholds was ≡ as_template template.now quota.now) }
+    ensures alike { IfOk result (λ was. was.same ≡ has_thresholds template.now quota.now) }
+{
+    let same = has_thresholds(template, quota);
+    Ok(Was {
+        row: QuotaRow {
+            folder: quota.folder,
+            limit: template.limit,
+            enforce: template.enforce,
+            state: quota.state,
+            thresholds: own_thresholds(alloc, template, same)?,
+            template: quota.template,
+            peak: quota.peak,
+            peak_at: quota.peak_at,
+        },
+        same,
+    })
+}
+
+// The thresholds of a template, unless they stand apart.
+fn own_thresholds(
     alloc: Global,
     template: &TemplateRow,
-    quota: &QuotaRow,
-) -> Result<QuotaRow, NoMemory>
-    ensures { IfOk result (λ row. row ≡ as_template template.now quota.now) }
+    apart: bool,
+) -> Result<List<Threshold>, NoMemory>
+    ensures { IfOk result (λ thresholds. apart ≡ false → thresholds ≡ template.now.thresholds) }
 {
-    Ok(QuotaRow {
-        folder: quota.folder,
-        limit: template.limit,
-        enforce: template.enforce,
-        state: quota.state,
-        thresholds: template.thresholds.copy(alloc)?,
-        template: quota.template,
-        peak: quota.peak,
-        peak_at: quota.peak_at,
-    })
+    if apart {
+        return Ok(List::new(alloc));
+    }
+    template.thresholds.copy(alloc)
 }

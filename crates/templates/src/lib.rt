@@ -11,9 +11,11 @@ mod autos;
 mod derived;
 mod kinds;
 mod matching;
+mod reached;
 mod rows;
 mod templates;
 
 pub use answer::TemplateFault;
+pub use reached::{Reached, Was};
 pub use rows::excludes;
 pub use templates::Templates;

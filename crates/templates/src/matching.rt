@@ -2,7 +2,9 @@
 
 ghost use Rattle.std.specs.Prelude.{◌≡◌};
 ghost use Rattle.std.specs.Cmp.Lexicographic.{pointwise};
-ghost use Rattle.fsrm_model.specs.objects.Templates.{is_derived, is_reached, matches_template, same_action, same_threshold};
+ghost use Rattle.std.specs.List.{list_all};
+ghost use Rattle.fsrm_model.specs.objects.Templates.{is_derived, is_reached, is_unrun, matches_template, same_action, same_threshold};
+ghost use Rattle.templates.specs.Reached.{has_thresholds};
 
 use fsrm_model::{Action, QuotaRow, TemplateRow, Threshold, Update};
 
@@ -32,6 +34,31 @@ fn matches_template(template: &TemplateRow, quota: &QuotaRow) -> bool
     template.limit == quota.limit
         && template.enforce == quota.enforce
         && same_thresholds(template.thresholds.as_slice(), quota.thresholds.as_slice())
+}
+
+/// Whether a quota has the thresholds of a template, and none of their actions ever ran.
+pub fn has_thresholds(template: &TemplateRow, quota: &QuotaRow) -> bool
+    ensures { result ≡ has_thresholds template.now quota.now }
+{
+    same_thresholds(template.thresholds.as_slice(), quota.thresholds.as_slice())
+        && are_unrun(quota.thresholds.as_slice())
+}
+
+// Whether none of their actions ever ran.
+fn are_unrun(thresholds: &[Threshold]) -> bool
+    ensures { result ≡ list_all is_unrun thresholds.now }
+{
+    thresholds.iter().all(|threshold| is_unrun(threshold))
+}
+
+fn is_unrun(threshold: &Threshold) -> bool
+    ensures { result ≡ is_unrun threshold.now }
+{
+    threshold
+        .actions
+        .as_slice()
+        .iter()
+        .all(|action| action.last_run.is_none())
 }
 
 fn same_thresholds(a: &[Threshold], b: &[Threshold]) -> bool
