@@ -13,5 +13,6 @@ pub mod ChargeLaws
 pub mod ClimbNotes
 pub mod SettledLaws
 pub mod UpdatedDue
+pub mod LimitLaws
 pub mod TurnedCalm
 pub mod ActTexts

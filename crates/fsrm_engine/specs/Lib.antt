@@ -13,3 +13,4 @@ pub mod Reporting
 pub mod Walk
 pub mod Moves
 pub mod Arrivals
+pub mod Updated

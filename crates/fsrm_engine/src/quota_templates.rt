@@ -141,8 +141,8 @@ impl Parts {
             .templates
             .modify(alloc, &mut self.objects, row, change.update, room)
         {
-            Ok(reached) => {
-                self.settle_reached(&reached, moment);
+            Ok(mut reached) => {
+                self.settle_reached(&mut reached, moment);
                 Ok(self.done(moment))
             }
             Err(fault) => refused_by_templates(fault),

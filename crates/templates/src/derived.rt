@@ -61,6 +61,7 @@ impl Templates {
         ensures ok { OnOk result (self.new ≡ with_other self.old row) }
         ensures quotas { OnOk result (objects.new ≡ record objects.old { quotas = updated_by self.old row mode objects.old.quotas }) }
         ensures reached { IfOk result (λ reached. were reached ≡ reached_by self.old row mode objects.old.quotas) }
+        ensures apart { IfOk result (λ reached. reached.thresholds ≡ row.thresholds) }
         ensures may { OnOk result (modify_fault self.old objects.old.quotas row mode room ≡ None) }
         ensures refused { IfErr result (λ fault. IsFault fault (modify_fault self.old objects.old.quotas row mode room)) }
         ensures err { OnErr result (self.new ≡ self.old) }
@@ -108,6 +109,7 @@ fn update(
     requires new { is_template new.now ≡ true }
     ensures ok { OnOk result (objects.new ≡ record objects.old { quotas = map (updated mode old.now new.now) objects.old.quotas }) }
     ensures reached { IfOk result (λ reached. were reached ≡ filter (is_reached mode old.now) objects.old.quotas) }
+    ensures apart { IfOk result (λ reached. reached.thresholds ≡ new.now.thresholds) }
     ensures may { OnOk result (update_fault old.now new.now objects.old.quotas mode room ≡ None) }
     ensures refused { IfErr result (λ fault. IsFault fault (update_fault old.now new.now objects.old.quotas mode room)) }
     ensures err { OnErr result (objects.new ≡ objects.old) }

@@ -123,7 +123,7 @@ module _ (counters : List Counter) (run_limit m : ℕ) (old now new : Marked) (s
       at false e = cc
 
   -- its quota is as it was, and there
-  same_row : row_of folder_of r.folder after.quotas ≡ row_of folder_of r.folder start.quotas
+  pub same_row : row_of folder_of r.folder after.quotas ≡ row_of folder_of r.folder start.quotas
   same_row = s.rows r.folder here
 
   pub row_there : has_row folder_of r.folder after.quotas ≡ true

@@ -3,15 +3,15 @@ use Rattle.std.proofs.Common.{◌≡◌, ℕ, ◌+◌, ◌-◌, ◌≤◌, ◌==
 use Rattle.std.proofs.lemmas.Bool.Decides.{nat_tests}
 use Rattle.std.proofs.lemmas.Option.{same_Some}
 use Rattle.std.specs.Prelude.{filter, flat_map, is_none, map, option_map, sum_by}
-use Rattle.std.specs.List.{list_all}
+use Rattle.std.specs.List.{AllByRecursion, list_all}
 use Rattle.std.specs.Option.{option_and_then, option_map_or}
 use Rattle.fsrm_base.specs.Causes.{◌when◌, first}
-use Rattle.fsrm_base.specs.Keyed.{has_row, is_ascending, with_change}
+use Rattle.fsrm_base.specs.Keyed.{has_row, is_ascending, row_of, with_change}
 use Rattle.fsrm_base.proofs.EditedTests.{list_all-filter}
-use Rattle.fsrm_base.proofs.Look.{found_has}
+use Rattle.fsrm_base.proofs.Look.{find-map, found_has}
 use Rattle.fsrm_base.proofs.Members.{all_pass}
 use Rattle.fsrm_base.proofs.Order.{ascending-filter}
-use Rattle.fsrm_base.proofs.RowLaws.{change_same}
+use Rattle.fsrm_base.proofs.RowLaws.{all_filter, change_same, each_found}
 use Rattle.fsrm_model.specs.declared.command.Act.{Act}
 use Rattle.fsrm_model.specs.declared.command.Answer.{Answer}
 use Rattle.fsrm_model.specs.declared.command.Deed.TheVariants.{Template}
@@ -24,6 +24,7 @@ use Rattle.fsrm_model.specs.declared.command.Update.{Update}
 use Rattle.fsrm_model.specs.declared.row.QuotaRow.{QuotaRow}
 use Rattle.fsrm_model.specs.declared.row.Rows.{Rows}
 use Rattle.fsrm_model.specs.declared.row.TemplateRow.{TemplateRow}
+use Rattle.fsrm_model.specs.declared.row.Threshold.{Threshold}
 use Rattle.fsrm_model.specs.values.Limits.{most_text_bytes}
 use Rattle.fsrm_model.specs.objects.Quota.{folder_of}
 use Rattle.fsrm_model.specs.objects.Templates.{as_template, is_reached, is_template, template_name, template_named, template_number, template_of, updated}
@@ -43,6 +44,7 @@ use Rattle.templates.specs.Held.{Held, reached_by, texts_in as template_texts, u
 use Rattle.fsrm_engine.specs.declared.parts.Parts.{Parts}
 use Rattle.fsrm_engine.specs.Due.{updated_acts}
 use Rattle.fsrm_engine.specs.Faults.{template_refusal, text_room, texts_of}
+use Rattle.fsrm_engine.specs.Updated.{HasNow}
 use Rattle.fsrm_engine.specs.Machine.{AreCounted, Does, IsCounted, IsIdle, IsWhole, Ran, ended, rows_of}
 use Rattle.fsrm_engine.proofs.settling.EndLaws.{due_of}
 use Rattle.fsrm_engine.proofs.settling.UpdatedDue.{due_updated, updated_folder}
@@ -104,6 +106,21 @@ reached_there mode old new quotas asc = among (is_reached mode old) quotas (all_
 
     among : (test : QuotaRow → Bool) (rows : List QuotaRow) → list_all (λ row. has_row folder_of row.folder (map (updated mode old new) quotas)) rows ≡ true → list_all (λ row. has_row folder_of row.folder (map (updated mode old new) quotas)) (filter test rows) ≡ true
     among test rows h = list_all-filter (λ row. has_row folder_of row.folder (map (updated mode old new) quotas)) test rows h
+
+-- and have the thresholds of the template now
+reached_now : (mode : Update) (old new : TemplateRow) (quotas : List QuotaRow) → is_ascending folder_of quotas ≡ true → AllByRecursion (HasNow new.thresholds (map (updated mode old new) quotas)) (filter (is_reached mode old) quotas)
+reached_now mode old new quotas asc =
+    all_filter (is_reached mode old) (HasNow new.thresholds (map change quotas)) quotas
+    (each_found folder_of (λ q. is_reached mode old q ≡ true → HasNow new.thresholds (map change quotas) q) quotas asc
+    (λ q own passes quota found.
+        ap (λ (x : QuotaRow). x.thresholds) (same_Some quota (change q) (sym found ∙ now q own))
+        ∙ ap (λ b. (cond b (as_template new q) q).thresholds) passes))
+  where
+    change : QuotaRow → QuotaRow
+    change = updated mode old new
+
+    now : (q : QuotaRow) → row_of folder_of q.folder quotas ≡ Some q → row_of folder_of q.folder (map change quotas) ≡ Some (change q)
+    now q own = find-map (λ r. folder_of r == q.folder) change (λ r. ap (λ k. k == q.folder) (updated_folder mode old new r)) quotas ∙ ap (option_map change) own
 
 pub record ReachedRows (rows quotas : List QuotaRow) : Type 0 where
   pub there : list_all (λ row. has_row folder_of row.folder quotas) rows ≡ true
@@ -213,6 +230,14 @@ module _ (p : Parts) (m : ℕ) (values : TemplateChange) where
             there = reached_there values.update t row p.objects.quotas asc;
             ascending = ascending-filter folder_of (is_reached values.update t) p.objects.quotas asc;
           }))
+
+      pub reached_have : (rows : List QuotaRow) (thresholds : List Threshold) → rows ≡ reached_by p.templates row values.update p.objects.quotas → thresholds ≡ row.thresholds → AllByRecursion (HasNow thresholds (updated_by p.templates row values.update p.objects.quotas)) rows
+      reached_have rows thresholds are has =
+          let quotas = updated_by p.templates row values.update p.objects.quotas in
+          subst (λ (ts : List Threshold). AllByRecursion (HasNow ts quotas) rows) (sym has)
+          (subst (AllByRecursion (HasNow row.thresholds quotas)) (sym (are ∙ reached_is))
+          (subst (λ (quotas : List QuotaRow). AllByRecursion (HasNow row.thresholds quotas) (filter (is_reached values.update t) p.objects.quotas)) (sym updated_is)
+          (reached_now values.update t row p.objects.quotas w.sound.counted.are_quotas.ascending)))
 
       pub template_modified : (run new : Parts) (rows : List QuotaRow) (answer : Answer) → IsIdle p → p.last_moment ≤ m → is_template row ≡ true → due p m (Template (TemplateModify values)) ≡ None → rows ≡ reached_by p.templates row values.update p.objects.quotas → Ran own_mid run m (flat_map (updated_acts own_mid.objects p.usage p.run_limit m) rows) → new ≡ ended run m → answer ≡ record { outcome = Done None; lasting = true } → Does p new m (Template (TemplateModify values)) answer
       template_modified run new rows answer idle after_last legal none are ran ends e =

@@ -1,11 +1,20 @@
 use Rattle.std.proofs.Common.{◌≡◌, drop, true}
+use Rattle.std.specs.List.{AllByRecursion}
+use Rattle.std.specs.Prelude.{map}
 use Rattle.fsrm_base.specs.Numbers.{is_set}
+use Rattle.templates.specs.Reached.{whole}
+use Rattle.fsrm_engine.specs.Updated.{HasNow}
 use Rattle.fsrm_engine.proofs.settling.UpdatedDue.{RowsSettled}
 use Rattle.fsrm_engine.proofs.updates.settle_rows.Given as goal
 
 -- some rows are left, whose quotas are as they were
-abbrev pub invariant-loop-row : goal.invariant-loop-row
-invariant-loop-row l = record {
-  settled : RowsSettled l.usage l.run_limit l.moment l.fn.marks l.marks l.fn.objects l.objects l.before (drop l.row-index l.before);
-  sorted : is_set l.marks.numbers ≡ true;
-}
+abbrev pub invariant-loop-place : goal.invariant-loop-place
+invariant-loop-place l =
+    let all = map (whole l.fn.thresholds) l.fn.rows in
+    record {
+      settled : RowsSettled l.usage l.run_limit l.moment l.fn.marks l.marks l.fn.objects l.objects all (drop l.place all);
+      now : AllByRecursion (HasNow l.fn.thresholds l.fn.objects.quotas) (drop l.place all);
+      sorted : is_set l.marks.numbers ≡ true;
+      rows : l.rows ≡ l.fn.rows;
+      apart : l.thresholds ≡ l.fn.thresholds;
+    }

@@ -19,8 +19,9 @@ settle_rows-requires c =
       marked = calm_there p (calm_of p c.requires.may.idle);
       sorted = calm_set p (calm_of p c.requires.may.idle);
       log = c.requires.log;
-      there = ap (list_all (λ (row : QuotaRow). has_row folder_of row.folder p.objects.quotas)) c.as_slice.ensures ∙ c.requires.there;
-      ascending = ap (is_ascending folder_of) c.as_slice.ensures ∙ c.requires.ascending;
+      there = c.requires.there;
+      ascending = c.requires.ascending;
+      now = c.requires.now;
     }
 
 pub returns-clause-settled : goal.returns-clause-settled
@@ -28,7 +29,7 @@ returns-clause-settled c =
     let p = c.args.self.now in
     record {
       parts_are = refl;
-      settles = subst (λ (rows : List QuotaRow). Settles p.marks c.settle_rows.new.marks p.objects c.settle_rows.new.objects c.args.moment (flat_map (updated_acts p.objects p.usage p.run_limit c.args.moment) rows)) c.as_slice.ensures c.settle_rows.ensures.settled;
+      settles = c.settle_rows.ensures.settled;
       set = c.settle_rows.ensures.sorted;
     }
 

@@ -1,5 +1,6 @@
 use Rattle.std.proofs.Common.{◌≡◌, ℕ, List, Some, true, false, refl, ap, sym, ◌∙◌, subst}
 use Rattle.std.specs.Prelude.{IfOk, flat_map}
+use Rattle.std.specs.List.{AllByRecursion}
 use Rattle.std.specs.Option.{option_and_then, option_copied}
 use Rattle.fsrm_model.specs.declared.command.Answer.{Answer}
 use Rattle.fsrm_model.specs.declared.command.Deed.TheVariants.{Template}
@@ -10,10 +11,12 @@ use Rattle.fsrm_model.specs.objects.Thresholds.{are_too_many, may_be_removed}
 use Rattle.fsrm_model.proofs.valid.TemplatesKept.{template_parts}
 use Rattle.fsrm_objects.specs.Tables.{Tables}
 use Rattle.templates.specs.Faults.{modify_fault}
+use Rattle.templates.specs.Reached.{were}
 use Rattle.fsrm_model.proofs.commands.ValueParts.{template_change_parts}
 use Rattle.fsrm_engine.specs.declared.parts.Parts.{Parts}
 use Rattle.fsrm_engine.specs.Due.{updated_acts}
 use Rattle.fsrm_engine.specs.Faults.{template_refusal}
+use Rattle.fsrm_engine.specs.Updated.{HasNow}
 use Rattle.fsrm_engine.specs.Machine.{AreCounted, Does, IsIdle, IsSound, Ran}
 use Rattle.fsrm_engine.proofs.settling.EndLaws.{few_log}
 use Rattle.fsrm_engine.proofs.steps.StepLaws.{refused_as}
@@ -21,7 +24,7 @@ use Rattle.fsrm_engine.proofs.tables.RanLaws.{sound_run}
 use Rattle.fsrm_engine.proofs.tables.RoomLaws.{percents_ascend}
 use Rattle.fsrm_engine.proofs.tables.SourceLaws.{named_legal}
 use Rattle.fsrm_engine.proofs.tables.TemplateLaws.{refused_by, rewritten_sound}
-use Rattle.fsrm_engine.proofs.tables.UpdateLaws.{ReachedRows, mid_is, modified_counted, modify_due, modify_missing, reached_rows, retemplated_legal, row_named, template_modified}
+use Rattle.fsrm_engine.proofs.tables.UpdateLaws.{ReachedRows, mid_is, modified_counted, modify_due, modify_missing, reached_have, reached_rows, retemplated_legal, row_named, template_modified}
 use Rattle.fsrm_engine.proofs.parts.Parts.template_modify.Goals as goal
 
 -- what was lent is the lists
@@ -70,7 +73,9 @@ settle_reached-requires c =
     let few : are_too_many row.thresholds ≡ false = sym c.are_too_many.ensures ∙ c.if-are_too_many.false in
     let legal = retemplated_legal change t row (template_change_parts change c.requires.valid) c.in_ok-row.ensures few (named_legal p c.args.change.now.name t w.valid is) in
     let mid = mid_is p c.args.moment change t is w row c.in_ok-row.ensures c.modify.new.self c.modify.new.objects c.in-Ok.ensures.ok c.in-Ok.ensures.quotas in
-    let are = reached_rows p c.args.moment change t is w row c.in_ok-row.ensures c.in-Ok.reached c.in-Ok.ensures.reached in
+    let before = were c.in-Ok.reached in
+    let are = reached_rows p c.args.moment change t is w row c.in_ok-row.ensures before c.in-Ok.ensures.reached in
+    let have = reached_have p c.args.moment change t is w row c.in_ok-row.ensures before c.in-Ok.reached.thresholds c.in-Ok.ensures.reached c.in-Ok.ensures.apart in
     record {
       may = record {
         counted = subst AreCounted (sym mid) (modified_counted p c.args.moment change t is w row c.in_ok-row.ensures legal);
@@ -78,8 +83,9 @@ settle_reached-requires c =
         in_range = c.requires.ready.in_range;
       };
       log = few_log p w;
-      there = (subst (λ (q : Parts). ReachedRows c.in-Ok.reached q.objects.quotas) (sym mid) are).there;
+      there = (subst (λ (q : Parts). ReachedRows before q.objects.quotas) (sym mid) are).there;
       ascending = are.ascending;
+      now = subst (λ (q : Parts). AllByRecursion (HasNow c.in-Ok.reached.thresholds q.objects.quotas) before) (sym mid) have;
     }
 
 pub returns-in-Ok-clause-ok : goal.returns-in-Ok-clause-ok
@@ -96,8 +102,8 @@ returns-in-Ok-clause-ok c =
     let due_is = modify_due p c.args.moment change t is w row c.in_ok-row.ensures c.room-room.result c.room-room.ensures may few in
     let mid = mid_is p c.args.moment change t is w row c.in_ok-row.ensures c.modify.new.self c.modify.new.objects c.in-Ok.ensures.ok c.in-Ok.ensures.quotas in
     template_modified p c.args.moment change t is w row c.in_ok-row.ensures
-    c.settle_reached.new.self c.done.new.self c.in-Ok.reached c.done.result c.requires.ready.idle c.requires.ready.after legal (due_is ∙ ap (option_and_then template_refusal) c.in-Ok.ensures.may) c.in-Ok.ensures.reached
-    (subst (λ (q : Parts). Ran q c.settle_reached.new.self c.args.moment (flat_map (updated_acts q.objects q.usage q.run_limit c.args.moment) c.in-Ok.reached)) mid c.settle_reached.ensures.settled)
+    c.settle_reached.new.self c.done.new.self (were c.in-Ok.reached) c.done.result c.requires.ready.idle c.requires.ready.after legal (due_is ∙ ap (option_and_then template_refusal) c.in-Ok.ensures.may) c.in-Ok.ensures.reached
+    (subst (λ (q : Parts). Ran q c.settle_reached.new.self c.args.moment (flat_map (updated_acts q.objects q.usage q.run_limit c.args.moment) (were c.in-Ok.reached))) mid c.settle_reached.ensures.settled)
     c.done.ensures.ended c.done.ensures.answer
 
 pub returns-in-Ok-clause-sound : goal.returns-in-Ok-clause-sound
