@@ -1,22 +1,26 @@
 -- Quotas whose thresholds stand apart, since they are those of the template already.
-use Rattle.std.proofs.Common.{◌≡◌, ℕ, ◌+◌, ◌==◌, ◌&&◌, Bool, true, false, cond, List, [], ◌∷◌, ◌++◌, Option, Some, None, drop, refl, sym, ◌∙◌, ap, append_assoc}
+use Rattle.std.proofs.Common.{◌≡◌, ℕ, ◌+◌, ◌==◌, ◌&&◌, ◌||◌, not, Bool, true, false, cond, List, [], ◌∷◌, ◌++◌, Option, Some, None, suc, zero, drop, refl, sym, ◌∙◌, ap, append_assoc}
 use Rattle.std.proofs.lemmas.List.{map-append}
+use Rattle.std.proofs.lemmas.List.Sums.{sum_by-cons}
 use Rattle.std.proofs.lemmas.Option.{same_Some, slice_get-map}
 use Rattle.std.specs.Bool.{beq}
 use Rattle.std.specs.Cmp.Lexicographic.{pointwise}
 use Rattle.std.specs.List.{list_all}
 use Rattle.std.specs.Prelude.{filter, is_none, map, option_map, slice_get}
 use Rattle.fsrm_base.proofs.TestLaws.{both, both_true, eq_same}
+use Rattle.fsrm_model.specs.declared.command.Update.{Update}
 use Rattle.fsrm_model.specs.declared.row.Action.{Action}
 use Rattle.fsrm_model.specs.declared.row.QuotaRow.{QuotaRow}
 use Rattle.fsrm_model.specs.declared.row.TemplateRow.{TemplateRow}
 use Rattle.fsrm_model.specs.declared.row.Threshold.{Threshold}
 use Rattle.fsrm_model.specs.meaning.Derives.{unrun, unrun_threshold}
-use Rattle.fsrm_model.specs.objects.Templates.{is_template, is_unrun, same_threshold}
+use Rattle.fsrm_model.specs.objects.Templates.{as_template, is_reached, is_template, is_unrun, same_threshold, updated}
+use Rattle.fsrm_model.specs.values.Texts.{quota_bytes, threshold_bytes}
 use Rattle.fsrm_model.proofs.templates.MatchLaws.{matching}
 use Rattle.fsrm_model.proofs.valid.TemplatesKept.{template_parts}
+use Rattle.fsrm_objects.specs.Tables.{quota_texts}
 use Rattle.templates.specs.declared.reached.Was.{Was}
-use Rattle.templates.specs.Reached.{has_thresholds, stand_apart, whole}
+use Rattle.templates.specs.Reached.{has_thresholds, keeps, stand_apart, whole}
 use Rattle.templates.proofs.UpdateLaws.{left_from}
 
 -- ---- thresholds that are those of a template
@@ -51,6 +55,29 @@ same_lists template quota is has =
     let own = both_true (quota.limit == quota.limit) (beq quota.enforce quota.enforce) (eq_same quota.limit) (kind_own quota.enforce) in
     let matches = (matching like quota).0 (both_true ((quota.limit == quota.limit) && beq quota.enforce quota.enforce) (pointwise same_threshold template.thresholds quota.thresholds) own parts.0) in
     sym (unrun_lists quota.thresholds parts.1) ∙ (sym matches.thresholds ∙ unrun_lists template.thresholds (template_parts template is).unrun)
+
+-- ---- quotas that keep their thresholds
+pub kept : (mode : Update) (old new : TemplateRow) (quotas : List QuotaRow) (place : ℕ) (quota : QuotaRow) → list_all (keeps mode old new) quotas ≡ true → slice_get quotas place ≡ Some quota → is_reached mode old quota ≡ true → has_thresholds new quota ≡ true
+kept mode old new [] place quota all at reached = cc
+kept mode old new (q ∷ quotas) zero quota all at reached =
+    let own = (both (keeps mode old new q) (list_all (keeps mode old new) quotas) all).0 in
+    ap (λ b. not b || has_thresholds new quota) (sym reached) ∙ (ap (keeps mode old new) (sym (same_Some q quota at)) ∙ own)
+kept mode old new (q ∷ quotas) (suc place) quota all at reached =
+    kept mode old new quotas place quota (both (keeps mode old new q) (list_all (keeps mode old new) quotas) all).1 at reached
+
+-- so their texts stay
+pub same_texts : (mode : Update) (old new : TemplateRow) (quotas : List QuotaRow) → is_template new ≡ true → list_all (keeps mode old new) quotas ≡ true → quota_texts (map (updated mode old new) quotas) ≡ quota_texts quotas
+same_texts mode old new [] is all = refl
+same_texts mode old new (q ∷ quotas) is all =
+    let parts = both (keeps mode old new q) (list_all (keeps mode old new) quotas) all in
+    let change = updated mode old new in
+    sum_by-cons quota_bytes (change q) (map change quotas)
+    ∙ (ap (λ n. n + quota_texts (map change quotas)) (at (is_reached mode old q) parts.0)
+    ∙ (ap (λ n. quota_bytes q + n) (same_texts mode old new quotas is parts.1) ∙ sym (sum_by-cons quota_bytes q quotas)))
+  where
+    at : (b : Bool) → (not b || has_thresholds new q) ≡ true → quota_bytes (cond b (as_template new q) q) ≡ quota_bytes q
+    at true has = ap threshold_bytes (sym (same_lists new q is has))
+    at false has = refl
 
 -- ---- quotas whose thresholds stand apart
 pub whole_folder : (thresholds : List Threshold) (was : Was) → (whole thresholds was).folder ≡ was.row.folder

@@ -1,6 +1,7 @@
 //! Quotas that are derived from a template, and what its change makes of them.
 
 ghost use Rattle.std.specs.Prelude.{◌≡◌, ◌+◌, IfOk, IfErr, OnOk, OnErr, None, Some, true, false, filter, map, nat_lt, option_map};
+ghost use Rattle.std.specs.List.{list_all};
 ghost use Rattle.fsrm_base.specs.Keyed.{has_row, is_ascending, row_of};
 ghost use Rattle.fsrm_model.specs.declared.row.QuotaRow.{QuotaRow};
 ghost use Rattle.fsrm_model.specs.declared.row.TemplateRow.{TemplateRow};
@@ -11,7 +12,7 @@ ghost use Rattle.fsrm_model.specs.values.Texts.{template_bytes};
 ghost use Rattle.fsrm_objects.specs.Tables.{has_short_texts, quota_texts, with_other as with_quota_put};
 ghost use Rattle.templates.specs.Faults.{IsFault, modify_fault, update_fault};
 ghost use Rattle.templates.specs.Held.{reached_by, updated_by, with_other};
-ghost use Rattle.templates.specs.Reached.{has_thresholds, stand_apart, were, whole};
+ghost use Rattle.templates.specs.Reached.{has_thresholds, keeps, stand_apart, were, whole};
 
 use crate::answer::TemplateFault;
 use crate::matching::{has_thresholds, is_reached};
@@ -114,11 +115,12 @@ fn update(
     ensures refused { IfErr result (λ fault. IsFault fault (update_fault old.now new.now objects.old.quotas mode room)) }
     ensures err { OnErr result (objects.new ≡ objects.old) }
 {
-    if is_long_update(objects, old, new, mode, room) {
+    let same = all_keep(objects, old, new, mode);
+    if is_long_update(objects, old, new, mode, same, room) {
         return Err(TemplateFault::TextsFull);
     }
     let mut thresholds = new.thresholds.copy(alloc)?;
-    let mut rows = updated_quotas(alloc, objects, old, new, mode)?;
+    let mut rows = updated_quotas(alloc, objects, old, new, mode, same)?;
     for place in 0..rows.len() {
         let was = rows.get_mut(place).unwrap();
         // That the texts of all of them fit was judged at once, before any was put (`is_long_update`).
@@ -144,22 +146,48 @@ fn exchange(objects: &mut Objects, was: &mut Was, thresholds: &mut List<Threshol
     was.trade(thresholds);
 }
 
-// Whether the texts of a template and of all quotas after its change, less those before it, are longer than the room.
+// Whether each quota keeps its thresholds: the change doesn't reach it, or it has those of the template already. Mostly
+// all do, and then their texts need not be counted.
+fn all_keep(objects: &Objects, old: &TemplateRow, new: &TemplateRow, mode: Update) -> bool
+    ensures { result ≡ list_all (keeps mode old.now new.now) objects.now.quotas }
+{
+    for place in 0..objects.quota_count() {
+        if !keeps(mode, old, new, objects.quota_at(place)) {
+            return false;
+        }
+    }
+    true
+}
+
+// Whether a quota keeps its thresholds.
+fn keeps(mode: Update, old: &TemplateRow, new: &TemplateRow, quota: &QuotaRow) -> bool
+    ensures { result ≡ keeps mode old.now new.now quota.now }
+{
+    !is_reached(mode, old, quota) || has_thresholds(new, quota)
+}
+
+// Whether the texts of a template and of all quotas after its change, less those before it, are longer than the room. If
+// `same` is set all quotas keep their thresholds.
 #[tactic(auto, using(crate::proofs::UpdateLaws::fitting))]
 fn is_long_update(
     objects: &Objects,
     old: &TemplateRow,
     new: &TemplateRow,
     mode: Update,
+    same: bool,
     room: u32,
 ) -> bool
     requires old { is_template old.now ≡ true }
     requires new { is_template new.now ≡ true }
+    requires same { same ≡ true → list_all (keeps mode old.now new.now) objects.now.quotas ≡ true }
     ensures { result ≡ nat_lt (room + (template_bytes old.now + quota_texts objects.now.quotas)) (template_bytes new.now + quota_texts (map (updated mode old.now new.now) objects.now.quotas)) }
 {
-    let each = u64::from(threshold_texts(&new.thresholds));
     let mut before = u64::from(room) + u64::from(template_texts(old));
     let mut after = u64::from(template_texts(new));
+    if same {
+        return before < after;
+    }
+    let each = u64::from(threshold_texts(&new.thresholds));
     for place in 0..objects.quota_count() {
         let quota = objects.quota_at(place);
         if is_reached(mode, old, quota) {
@@ -170,14 +198,17 @@ fn is_long_update(
     before < after
 }
 
-// What a template's change makes of the quotas that it reaches, in the order of their folders.
+// What a template's change makes of the quotas that it reaches, in the order of their folders. If `same` is set all
+// quotas keep their thresholds.
 fn updated_quotas(
     alloc: Global,
     objects: &Objects,
     old: &TemplateRow,
     new: &TemplateRow,
     mode: Update,
+    same: bool,
 ) -> Result<List<Was>, NoMemory>
+    requires { same ≡ true → list_all (keeps mode old.now new.now) objects.now.quotas ≡ true }
     ensures made { IfOk result (λ rows. map (whole new.now.thresholds) rows ≡ map (as_template new.now) (filter (is_reached mode old.now) objects.now.quotas)) }
     ensures alike { IfOk result (λ rows. map stand_apart rows ≡ map (has_thresholds new.now) (filter (is_reached mode old.now) objects.now.quotas)) }
     ensures ascending { is_ascending folder_of objects.now.quotas ≡ true }
@@ -186,31 +217,43 @@ fn updated_quotas(
     for place in 0..objects.quota_count() {
         let quota = objects.quota_at(place);
         if is_reached(mode, old, quota) {
-            rows.push(as_template(alloc, new, quota)?)?;
+            let apart = stands_apart(new, quota, same);
+            rows.push(as_template(alloc, new, quota, apart)?)?;
         }
     }
     Ok(rows)
 }
 
-// A quota with the limit, the type and the thresholds of a template. If it has these thresholds already they stand
-// apart.
-fn as_template(alloc: Global, template: &TemplateRow, quota: &QuotaRow) -> Result<Was, NoMemory>
-    ensures row { IfOk result (λ was. whole template.now.thresholds was ≡ as_template template.now quota.now) }
-    ensures alike { IfOk result (λ was. was.same ≡ has_thresholds template.now quota.now) }
+// Whether a quota has the thresholds of a template. If `same` is set it is known to.
+fn stands_apart(template: &TemplateRow, quota: &QuotaRow, same: bool) -> bool
+    requires { same ≡ true → has_thresholds template.now quota.now ≡ true }
+    ensures { result ≡ has_thresholds template.now quota.now }
 {
-    let same = has_thresholds(template, quota);
+    same || has_thresholds(template, quota)
+}
+
+// A quota with the limit, the type and the thresholds of a template, which may stand apart.
+fn as_template(
+    alloc: Global,
+    template: &TemplateRow,
+    quota: &QuotaRow,
+    apart: bool,
+) -> Result<Was, NoMemory>
+    ensures row { IfOk result (λ was. whole template.now.thresholds was ≡ as_template template.now quota.now) }
+    ensures apart { IfOk result (λ was. was.same ≡ apart) }
+{
     Ok(Was {
         row: QuotaRow {
             folder: quota.folder,
             limit: template.limit,
             enforce: template.enforce,
             state: quota.state,
-            thresholds: own_thresholds(alloc, template, same)?,
+            thresholds: own_thresholds(alloc, template, apart)?,
             template: quota.template,
             peak: quota.peak,
             peak_at: quota.peak_at,
         },
-        same,
+        same: apart,
     })
 }
 

@@ -113,8 +113,8 @@ reached_now mode old new quotas asc =
     all_filter (is_reached mode old) (HasNow new.thresholds (map change quotas)) quotas
     (each_found folder_of (λ q. is_reached mode old q ≡ true → HasNow new.thresholds (map change quotas) q) quotas asc
     (λ q own passes quota found.
-        ap (λ (x : QuotaRow). x.thresholds) (same_Some quota (change q) (sym found ∙ now q own))
-        ∙ ap (λ b. (cond b (as_template new q) q).thresholds) passes))
+    ap (λ (x : QuotaRow). x.thresholds) (same_Some quota (change q) (sym found ∙ now q own))
+    ∙ ap (λ b. (cond b (as_template new q) q).thresholds) passes))
   where
     change : QuotaRow → QuotaRow
     change = updated mode old new

@@ -6,6 +6,7 @@ use Rattle.fsrm_model.specs.declared.row.QuotaRow.{QuotaRow}
 use Rattle.fsrm_model.specs.objects.Templates.{as_template, updated}
 use Rattle.fsrm_model.specs.values.Texts.{quota_bytes, template_bytes, threshold_bytes}
 use Rattle.fsrm_objects.specs.Tables.{quota_texts}
+use Rattle.templates.proofs.ReachedLaws.{same_texts}
 use Rattle.templates.proofs.UpdateLaws.{left_from, lt_moved}
 use Rattle.templates.proofs.derived.is_long_update.Goals.{then-is_reached, else-is_reached}
 use Rattle.templates.proofs.derived.is_long_update.Goals as goal
@@ -43,3 +44,12 @@ returns c =
     let texts : quota_texts (drop c.loop-place.place quotas) ≡ 0 = ap quota_texts none in
     let updates : quota_texts (map change (drop c.loop-place.place quotas)) ≡ 0 = ap (λ (rows : List QuotaRow). quota_texts (map change rows)) none in
     lt_moved _ _ (c.args.room + (template_bytes c.args.old.now + quota_texts quotas)) (template_bytes c.args.new.now + quota_texts (map change quotas)) (omega (arith, c.loop-place.invariant.balance, texts, updates))
+
+pub returns-then-same : goal.returns-then-same
+returns-then-same c =
+    let quotas = c.args.objects.now.quotas in
+    let new = c.args.new.now in
+    let change = updated c.args.mode c.args.old.now new in
+    let texts = same_texts c.args.mode c.args.old.now new quotas c.requires.new (c.requires.same c.if-same.true) in
+    lt_moved _ _ (c.args.room + (template_bytes c.args.old.now + quota_texts quotas)) (template_bytes new + quota_texts (map change quotas))
+    (omega (arith, c.from.ensures, c.from-2.ensures, c.from-after.ensures, c.template_texts.ensures, c.template_texts-2.ensures, texts))

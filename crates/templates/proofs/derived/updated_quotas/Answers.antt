@@ -5,7 +5,7 @@ use Rattle.fsrm_model.specs.declared.row.QuotaRow.{QuotaRow}
 use Rattle.fsrm_model.specs.objects.Templates.{as_template, is_reached}
 use Rattle.templates.specs.declared.reached.Was.{Was}
 use Rattle.templates.specs.Reached.{has_thresholds, stand_apart, whole}
-use Rattle.templates.proofs.ReachedLaws.{left_out, passed}
+use Rattle.templates.proofs.ReachedLaws.{kept, left_out, passed}
 use Rattle.templates.proofs.derived.updated_quotas.Goals.{then-is_reached+in_ok-as_template+in_ok-push, else-is_reached}
 use Rattle.templates.proofs.derived.updated_quotas.Goals as goal
 
@@ -17,6 +17,11 @@ loop-place-init c =
       made = ap (λ (rs : List Was). map (whole new.thresholds) rs ++ map (as_template new) reached) c.new-rows.ensures;
       alike = ap (λ (rs : List Was). map stand_apart rs ++ map (has_thresholds new) reached) c.new-rows.ensures;
     }
+
+pub stands_apart-apart-requires : goal.stands_apart-apart-requires
+stands_apart-apart-requires c = λ same.
+    kept c.args.mode c.args.old.now c.args.new.now c.args.objects.now.quotas c.loop-place.place c.quota_at-quota.result.now (c.requires same) c.quota_at-quota.ensures
+    (sym c.is_reached.ensures ∙ c.if-is_reached.true)
 
 pub loop-place-preserved : goal.loop-place-preserved
 loop-place-preserved c =
@@ -37,7 +42,7 @@ loop-place-preserved c =
             made = ap (λ (rs : List Was). map (whole new.thresholds) rs ++ map (as_template new) (filter p (drop (place + 1) quotas))) pushed
                 ∙ passed (whole new.thresholds) (as_template new) p quotas place quota at rows so_far.made was yes w.in_ok-as_template.ensures.row;
             alike = ap (λ (rs : List Was). map stand_apart rs ++ map (has_thresholds new) (filter p (drop (place + 1) quotas))) pushed
-                ∙ passed stand_apart (has_thresholds new) p quotas place quota at rows so_far.alike was yes w.in_ok-as_template.ensures.alike;
+                ∙ passed stand_apart (has_thresholds new) p quotas place quota at rows so_far.alike was yes (w.in_ok-as_template.ensures.apart ∙ w.stands_apart-apart.ensures);
           }
       | else-is_reached w ↦
           let no = sym c.is_reached.ensures ∙ w.if-is_reached.false in
