@@ -1,11 +1,4 @@
-use Rattle.std.proofs.Common.{List, refl, ap, ◌∙◌, subst}
-use Rattle.std.specs.Prelude.{flat_map}
-use Rattle.std.specs.List.{list_all}
-use Rattle.fsrm_base.specs.Keyed.{has_row, is_ascending}
-use Rattle.fsrm_model.specs.declared.row.QuotaRow.{QuotaRow}
-use Rattle.fsrm_model.specs.objects.Quota.{folder_of}
-use Rattle.thresholds.specs.Settled.{Settles}
-use Rattle.fsrm_engine.specs.Due.{updated_acts}
+use Rattle.std.proofs.Common.{refl}
 use Rattle.fsrm_engine.proofs.settling.MarkLaws.{calm_of, calm_set, calm_there}
 use Rattle.fsrm_engine.proofs.settling.OrderlyQuotas.{quotas_orderly}
 use Rattle.fsrm_engine.proofs.tables.RanLaws.{counted_run}
