@@ -93,8 +93,8 @@ impl Parts {
     }
 
     /// Gives a folder this quota in place of the one that it has, with its peak. If it comes to count, nothing may be
-    /// used yet.
-    pub(crate) fn put(&mut self, row: QuotaRow)
+    /// used yet. Whether there is room for its texts isn't asked (`may_put`).
+    pub(crate) fn put(&mut self, mut row: QuotaRow)
         requires counted { AreCounted self.old }
         requires there { has_row folder_of row.folder self.old.objects.quotas ≡ true }
         requires limit { is_limit row.limit ≡ true }
@@ -102,13 +102,11 @@ impl Parts {
         requires moment { is_moment row.peak_at ≡ true }
         requires peak { (quota : QuotaRow) → row_of folder_of row.folder self.old.objects.quotas ≡ Some quota → row.peak ≡ quota.peak }
         requires nothing { (quota : QuotaRow) → row_of folder_of row.folder self.old.objects.quotas ≡ Some quota → counts quota ≡ false → counts row ≡ true → usage self.old.tree.size self.old.tree.nodes row.folder ≡ 0 }
-        requires may { other_fault self.old.objects row (text_room self.old) ≡ None }
         ensures put { self.new ≡ recounted self.old (with_change folder_of row.folder (λ quota. row) self.old.objects.quotas) }
         ensures counted { AreCounted self.new }
     {
         recount(&mut self.usage, row.folder, row.state.counts());
-        let room = self.room();
-        self.objects.set_quota(row, room).unwrap();
+        self.objects.put_quota(&mut row);
     }
 
     /// Has a folder's quota count no longer until it is scanned.

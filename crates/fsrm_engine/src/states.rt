@@ -14,7 +14,7 @@ ghost use Rattle.fsrm_model.specs.nodes.Tree.{is_folder, usage};
 ghost use Rattle.fsrm_model.specs.store.Valid.{IsVolume, is_moment};
 ghost use Rattle.rescan.specs.Courses.{Scanning, Turns};
 ghost use Rattle.volume_tree.specs.Volume.{Volume};
-ghost use Rattle.fsrm_objects.specs.Tables.{IsFault, other_fault, quota_fault};
+ghost use Rattle.fsrm_objects.specs.Tables.{IsFault, quota_fault};
 ghost use Rattle.fsrm_engine.specs.Faults.{text_room};
 ghost use Rattle.fsrm_engine.specs.Machine.{IsSound, Turned, rows_of};
 
@@ -130,7 +130,6 @@ impl Parts {
         requires moment { is_moment row.peak_at ≡ true }
         requires peak { (quota : QuotaRow) → row_of folder_of row.folder self.old.objects.quotas ≡ Some quota → row.peak ≡ quota.peak }
         requires nothing { (quota : QuotaRow) → row_of folder_of row.folder self.old.objects.quotas ≡ Some quota → counts quota ≡ false → counts row ≡ true → usage self.old.tree.size self.old.tree.nodes row.folder ≡ 0 }
-        requires may { other_fault self.old.objects row (text_room self.old) ≡ None }
         requires few { is_in self.old.scans.queue row.folder ≡ false → length self.old.scans.queue < most_quotas }
         ensures replaced { Turned self.old self.new (with_change folder_of row.folder (λ old. row) self.old.objects.quotas) (queued self.old.scans.queue row.folder row.state) }
         ensures sound { IsSound self.new }

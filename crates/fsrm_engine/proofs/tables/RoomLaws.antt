@@ -1,8 +1,7 @@
 -- What the tables refuse of a row, as the refusals of a command.
-use Rattle.std.proofs.Common.{◌≡◌, ℕ, suc, ◌+◌, ◌-◌, ◌≤◌, ◌==◌, Bool, true, false, not, ◌&&◌, List, [], ◌∷◌, Option, Some, None, length, nat_lt, nat_le, refl, ap, sym, ◌∙◌, arith}
+use Rattle.std.proofs.Common.{◌≡◌, ℕ, suc, ◌+◌, ◌-◌, ◌≤◌, ◌==◌, Bool, true, false, not, ◌&&◌, List, [], ◌∷◌, Option, Some, length, nat_lt, nat_le, refl, ap, sym, ◌∙◌, arith}
 use Rattle.std.proofs.lemmas.Bool.Decides.{nat_tests}
-use Rattle.std.specs.Prelude.{is_some, is_none, Result, Ok, Err, IfOk, IfErr}
-use Rattle.std.specs.Result.{IsOk}
+use Rattle.std.specs.Prelude.{is_some, is_none, Result, Ok, Err, IfOk}
 use Rattle.std.specs.List.{list_all}
 use Rattle.std.specs.Option.{option_and_then, option_map_or}
 use Rattle.fsrm_base.specs.declared.memory.NoMemory.{NoMemory as Wanting}
@@ -75,11 +74,6 @@ pub legal_thresholds : (thresholds : List Threshold) → is_ascending percent_of
 legal_thresholds thresholds ascending short each =
     both_true (is_ascending percent_of thresholds && not (are_too_many thresholds)) (list_all is_threshold thresholds)
     (both_true (is_ascending percent_of thresholds) (not (are_too_many thresholds)) ascending (ap not short)) each
-
--- what has no cause to be refused isn't
-pub goes_in : (due : Option ObjectFault) (result : Result (Unit {0}) ObjectFault) → due ≡ None → IfErr result (λ fault. due ≡ Some fault) → IsOk result
-goes_in due (Ok u) none refused = refl
-goes_in due (Err fault) none refused = let e = sym none ∙ refused in absurd (cc e)
 
 -- ---- room for texts
 -- all texts but those of quotas
