@@ -12,6 +12,20 @@ pub fn put(into: &mut [u8], at: usize, bytes: &[u8]) -> usize
     requires { at ≤ length into.old }
     ensures { Writes into.old at into.new result bytes.now }
 {
+    if into.len() - at < bytes.len() {
+        return put_front(into, at, bytes);
+    }
+    // So many bytes as are known when this is compiled are copied without a call.
+    let end = at + bytes.len();
+    into[at..end].copy_from_slice(bytes);
+    end
+}
+
+// Writes the first of these bytes, as many as have room.
+fn put_front(into: &mut [u8], at: usize, bytes: &[u8]) -> usize
+    requires { at ≤ length into.old }
+    ensures { Writes into.old at into.new result bytes.now }
+{
     let count = bytes.len().min(into.len() - at);
     into[at..at + count].copy_from_slice(&bytes[..count]);
     at + count
