@@ -1,7 +1,8 @@
 -- Entries that may be written have a spelling, which has room.
-use Rattle.std.proofs.Common.{◌≡◌, ℕ, ◌+◌, ◌≤◌, true, [], ◌++◌, length, Option, Some, None, refl, sym, ap, ◌∙◌, arith, length-append}
+use Rattle.std.proofs.Common.{◌≡◌, ℕ, ◌≤◌, true, List, [], ◌++◌, length, take, drop, Option, Some, None, refl, sym, ap, ◌∙◌, arith, length-append}
 use Rattle.std.specs.Prelude.{◌&&◌, is_some, option_map, false}
 use Rattle.std.specs.Option.{option_map_or}
+use Rattle.std.proofs.lemmas.List.{length-take, take-append-le}
 use Rattle.fsrm_base.proofs.TestLaws.{both, both_true}
 use Rattle.fsrm_model.specs.commands.Commands.{kind}
 use Rattle.fsrm_model.specs.declared.command.Deed.{Deed}
@@ -11,6 +12,8 @@ use Rattle.fsrm_model.specs.store.Valid.{is_moment}
 use Rattle.fsrm_model.specs.store.Valued.{is_deed, is_short}
 use Rattle.fsrm_model.specs.values.Limits.{latest_moment, longest_entry}
 use Rattle.record_fields.specs.Formats.{number_spelled}
+use Rattle.record_fields.specs.Writers.{Writes}
+use Rattle.record_fields.proofs.WriterLaws.{whole}
 use Rattle.record_codec.specs.declared.deeds.DeedKind.{DeedKind}
 use Rattle.record_codec.specs.declared.kinds.Kind.TheVariants.{Deed as DeedKinds, Finish as FinishKind}
 use Rattle.record_codec.specs.Deeds.{deed_code, deed_kind, deed_values, deed_spelled}
@@ -65,3 +68,12 @@ writable_room (Order command) writable =
 writable_room (Finish at number) writable =
     let after = body.spell (Finishes number) in
     omega (arith, length-append (moment.spell at) after, eight_bytes at, length-append (entry_kind.spell FinishKind) (folder.spell number), one_byte 99, eight_bytes number)
+
+-- what is written into the front of a buffer with room for the longest entry
+pub written_whole : (e : Entry) (into new : List ℕ) (end : ℕ) → IsWritable e → longest_entry ≤ length into → Writes (take longest_entry into) 0 new end (entry.spell e)
+    → (end ≡ length (entry.spell e)) × ((take end (new ++ drop longest_entry into) ≡ entry.spell e) × (end ≤ longest_entry))
+written_whole e into new end writable room w =
+    let some = writable_room e writable in
+    let front : length (take longest_entry into) ≡ longest_entry = omega (arith, room, length-take longest_entry into) in
+    let all = whole (take longest_entry into) new (entry.spell e) 0 end w (omega (arith, some, front)) in
+    (omega (arith, all.0), (take-append-le end new (drop longest_entry into) w.within ∙ all.1, omega (arith, all.0, some)))

@@ -16,7 +16,7 @@ use Rattle.fsrm_model.specs.values.Name.{is_name, is_name_byte}
 use Rattle.fsrm_model.proofs.lines.PathLaws.{path_writes}
 use Rattle.record_fields.specs.Formats.{number_spelled, text_spelled}
 use Rattle.record_fields.specs.Writers.{Writes}
-use Rattle.record_fields.proofs.WriterLaws.{writes_text}
+use Rattle.record_fields.proofs.WriterLaws.{writes_then}
 use Rattle.record_codec.specs.Fields.{path_text, path_of}
 use Rattle.record_codec.specs.Paths.{is_spelled_so}
 use Rattle.record_codec.specs.Typed.{is_path_text}
@@ -125,13 +125,15 @@ low_bytes n =
     let second : n % 65536 / 256 % 256 ≡ n / 256 % 256 = omega arith in
     rw (first, second) refl
 
--- a path's length, and then its text: the volume, and the names
-pub path_written : {o m n : List ℕ} {a b c : ℕ} (path : Path) (names : List ℕ) (size : ℕ) → names ≡ join_with_byte 92 path → size ≡ (3 + length names) % 65536
-    → Writes o a m b (number_spelled 2 size) → Writes m b n c (codes "D:\\" ++ names) → Writes o a n c (text_spelled (path_text path))
-path_written {o = o} {m = m} {a = a} {b = b} path names size is low p q =
+-- a path's length and its volume, and then the names
+pub path_written : {o m n : List ℕ} {a b c : ℕ} (path : Path) (names : List ℕ) (size : ℕ) (bytes : List ℕ) → names ≡ join_with_byte 92 path → size ≡ (3 + length names) % 65536 → bytes ≡ size % 256 ∷ size / 256 % 256 ∷ []
+    → Writes o a m b (slice_index bytes 0 ∷ slice_index bytes 1 ∷ codes "D:\\") → Writes m b n c names → Writes o a n c (text_spelled (path_text path))
+unfolding number_spelled text_spelled
+path_written {o = o} {m = m} {n = n} {a = a} {b = b} {c = c} path names size bytes is low spelled p q =
     let text : codes "D:\\" ++ names ≡ path_text path = ap (λ ns. codes "D:\\" ++ ns) is in
     let same : number_spelled 2 size ≡ number_spelled 2 (length (path_text path)) = ap (number_spelled 2) low ∙ low_bytes (3 + length names) ∙ ap (number_spelled 2) (omega (arith, ap length text)) in
-    writes_text (path_text path) (codes "D:\\" ++ names) text (subst (Writes o a m b) same p) q
+    let front : slice_index bytes 0 ∷ slice_index bytes 1 ∷ codes "D:\\" ≡ number_spelled 2 (length (path_text path)) ++ codes "D:\\" = ap (λ (bs : List ℕ). slice_index bs 0 ∷ slice_index bs 1 ∷ codes "D:\\") (spelled ∙ same) in
+    subst (Writes o a n c) (ap (λ (t : List ℕ). number_spelled 2 (length (path_text path)) ++ t) text) (writes_then (subst (Writes o a m b) front p) q)
 
 -- ---- a path's text is UTF-8
 are_ascii : (bytes : List ℕ) → list_all (λ b. nat_lt b 128) bytes ≡ true → IsAscii bytes

@@ -9,6 +9,7 @@ ghost use Rattle.record_codec.specs.Writing.{lent, IsWritable, entry_typed};
 use crate::deeds::put_deed;
 use crate::entry::EntryRef;
 use crate::files::put_op;
+use fsrm_model::limits::LONGEST_ENTRY;
 use record_fields::{put_u8, put_u64};
 
 /// Writes the one spelling of an entry from the first byte on, and answers its length. The spelling is legal, so the
@@ -21,7 +22,9 @@ pub fn encode(entry: &EntryRef<'_>, into: &mut [u8]) -> usize
     ensures length { result ≡ length (entry_format.spell (lent entry.now)) }
     ensures short { result ≤ longest_entry }
 {
-    put_entry(entry, into)
+    // That so many bytes are there is known when this is compiled: so nothing before the first text is asked whether it
+    // has room.
+    put_entry(entry, &mut into[..LONGEST_ENTRY])
 }
 
 fn put_entry(entry: &EntryRef<'_>, into: &mut [u8]) -> usize

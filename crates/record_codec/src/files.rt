@@ -45,34 +45,33 @@ impl FileKind {
 pub fn read_op(alloc: Global, reader: &mut Reader<'_>, kind: FileKind) -> Result<FileOp, FieldFault>
     ensures { Gives result reader.new ((file_op kind).read reader.old) }
 {
+    let path = PathField::read(alloc, reader)?;
     Ok(match kind {
         FileKind::Mkdir => FileOp::Mkdir {
-            path: PathField::read(alloc, reader)?,
+            path,
             owner: read_owner(reader)?,
         },
         FileKind::Create => FileOp::Create {
-            path: PathField::read(alloc, reader)?,
+            path,
             length: read_length(reader)?,
             owner: read_owner(reader)?,
         },
         FileKind::Resize => FileOp::Resize {
-            path: PathField::read(alloc, reader)?,
+            path,
             length: read_length(reader)?,
         },
-        FileKind::Touch => FileOp::Touch {
-            path: PathField::read(alloc, reader)?,
-        },
+        FileKind::Touch => FileOp::Touch { path },
         FileKind::Move => FileOp::Move {
-            from: PathField::read(alloc, reader)?,
+            from: path,
             to: PathField::read(alloc, reader)?,
         },
-        FileKind::Remove => FileOp::Remove {
-            path: PathField::read(alloc, reader)?,
-        },
+        FileKind::Remove => FileOp::Remove { path },
     })
 }
 
 /// Writes a file operation: its kind, and its values.
+// Inlined with what it calls, since there are more entries of these than of all other commands.
+#[inline(always)]
 pub fn put_op(op: &FileOp, into: &mut [u8], at: usize) -> usize
     requires { at ≤ length into.old }
     ensures written { Writes into.old at into.new result (file_spelled op.now) }

@@ -10,7 +10,7 @@ ghost use Rattle.record_codec.specs.Typed.{is_path_text};
 
 use fsrm_model::Path;
 use name_rules::{PathFault, read_path};
-use record_fields::{Field, FieldFault, Flaw, Reader, put, put_u8, put_u16};
+use record_fields::{Field, FieldFault, Flaw, Reader, put, put_u8};
 use std::alloc::Global;
 
 /// A path: `D:\` and its names, joined by `\`. It is a text, and so one field.
@@ -73,18 +73,20 @@ fn ends_with_backslash(text: &[u8]) -> bool
 }
 
 /// Writes a path, after its length. Its text is UTF-8.
+#[inline(always)]
 pub fn put_path(path: &Path, into: &mut [u8], at: usize) -> usize
     requires { at ≤ length into.old }
     ensures written { Writes into.old at into.new result (text_spelled (path_text path.now)) }
     ensures text { is_path_text path.now ≡ true }
 {
     let names = path.joined();
-    let after = put_u16(into, at, low_len(names));
-    let begun = put(into, after, b"D:\\");
+    let [low, high] = low_len(names).to_le_bytes();
+    let begun = put(into, at, &[low, high, b'D', b':', b'\\']);
     put(into, begun, names.as_bytes())
 }
 
 /// Writes the byte of a kind whose first value is a path, and this path. Its text is UTF-8.
+#[inline(always)]
 pub fn put_on_path(kind: u8, path: &Path, into: &mut [u8], at: usize) -> usize
     requires { at ≤ length into.old }
     ensures written { Writes into.old at into.new result (number_spelled 1 kind ++ text_spelled (path_text path.now)) }

@@ -8,6 +8,9 @@ ghost use Rattle.record_fields.specs.Formats.{number_spelled, text_spelled, trut
 ghost use Rattle.record_fields.specs.Writers.{Writes};
 
 /// Writes bytes at a place.
+// It is inlined everywhere, since most calls write so many bytes as are known when they are compiled: these are copied
+// without a call.
+#[inline(always)]
 pub fn put(into: &mut [u8], at: usize, bytes: &[u8]) -> usize
     requires { at ≤ length into.old }
     ensures { Writes into.old at into.new result bytes.now }
@@ -15,13 +18,13 @@ pub fn put(into: &mut [u8], at: usize, bytes: &[u8]) -> usize
     if into.len() - at < bytes.len() {
         return put_front(into, at, bytes);
     }
-    // So many bytes as are known when this is compiled are copied without a call.
     let end = at + bytes.len();
     into[at..end].copy_from_slice(bytes);
     end
 }
 
 // Writes the first of these bytes, as many as have room.
+#[inline(never)]
 fn put_front(into: &mut [u8], at: usize, bytes: &[u8]) -> usize
     requires { at ≤ length into.old }
     ensures { Writes into.old at into.new result bytes.now }
