@@ -1,5 +1,5 @@
 -- The pieces of which an image consists: what comes first, the count of each list, and its rows.
-use Rattle.std.specs.Prelude.{ℕ, ◌&&◌, Bool, true, false, List, ◌∷◌, ◌++◌, length, map}
+use Rattle.std.specs.Prelude.{ℕ, Bool, true, List, ◌∷◌, ◌++◌, length, map}
 use Rattle.fsrm_model.specs.declared.row.ActRow.{ActRow}
 use Rattle.fsrm_model.specs.declared.row.AuditRow.{AuditRow}
 use Rattle.fsrm_model.specs.declared.row.AutoRow.{AutoRow}
@@ -12,7 +12,7 @@ use Rattle.fsrm_model.specs.declared.row.Rows.{Rows}
 use Rattle.fsrm_model.specs.declared.row.ScreenRow.{ScreenRow}
 use Rattle.fsrm_model.specs.declared.row.TemplateRow.{TemplateRow}
 use Rattle.fsrm_model.specs.store.Lasting.{flagged_quota}
-use Rattle.record_fields.specs.Formats.{number_spelled, number_legal}
+use Rattle.record_fields.specs.Formats.{Format, number, ◌⊗◌}
 use Rattle.image_codec.specs.declared.row_ref.RowRef.{RowRef}
 use Rattle.image_codec.specs.declared.row_ref.RowRef.TheVariants as lent_row
 use Rattle.image_codec.specs.Parts.{is_short, quota_meets, template_meets, auto_meets, group_meets, screen_meets, except_meets, job_meets}
@@ -61,44 +61,34 @@ lent (lent_row.Audit moment active owner folder screen name) =
     AuditPiece
     (record { moment = moment; active = active; owner = owner; folder = folder; screen = screen; name = name.now })
 
--- the rows whose names are lent by themselves
-abbrev pub is_node : Piece → Bool
-is_node (NodePiece row) = true
-is_node other = false
+-- a spelling, and whether it is read again
+pub record Spelling : Type 0 where
+  pub bytes : List ℕ
+  pub legal : Bool
 
-abbrev pub is_audit : Piece → Bool
-is_audit (AuditPiece row) = true
-is_audit other = false
+abbrev pub spelled_as : {X : Type 0} → Format X → X → Spelling
+spelled_as f x = record { bytes = f.spell x; legal = f.legal x }
 
--- How a piece is spelled. A quota that is rebuilt is spelled as incomplete
+-- A quota that is rebuilt is spelled as incomplete
+abbrev pub spelling : Piece → Spelling
+spelling (StartPiece last_moment run_limit) = spelled_as (number 8 ⊗ number 4) (last_moment, run_limit)
+spelling (CountPiece count) = spelled_as (number 4) count
+spelling (NodePiece row) = spelled_as node row
+spelling (QuotaPiece row) = spelled_as quota (flagged_quota row)
+spelling (TemplatePiece row) = spelled_as template row
+spelling (AutoPiece row) = spelled_as auto row
+spelling (GroupPiece row) = spelled_as group row
+spelling (ScreenPiece row) = spelled_as screen row
+spelling (ExceptPiece row) = spelled_as except row
+spelling (JobPiece row) = spelled_as job row
+spelling (ActPiece row) = spelled_as act row
+spelling (AuditPiece row) = spelled_as audit row
+
 abbrev pub piece_spelled : Piece → List ℕ
-piece_spelled (StartPiece last_moment run_limit) = number_spelled 8 last_moment ++ number_spelled 4 run_limit
-piece_spelled (CountPiece count) = number_spelled 4 count
-piece_spelled (NodePiece row) = node.spell row
-piece_spelled (QuotaPiece row) = quota.spell (flagged_quota row)
-piece_spelled (TemplatePiece row) = template.spell row
-piece_spelled (AutoPiece row) = auto.spell row
-piece_spelled (GroupPiece row) = group.spell row
-piece_spelled (ScreenPiece row) = screen.spell row
-piece_spelled (ExceptPiece row) = except.spell row
-piece_spelled (JobPiece row) = job.spell row
-piece_spelled (ActPiece row) = act.spell row
-piece_spelled (AuditPiece row) = audit.spell row
+piece_spelled piece = (spelling piece).bytes
 
--- whether it is read again
 abbrev pub piece_legal : Piece → Bool
-piece_legal (StartPiece last_moment run_limit) = number_legal 8 last_moment && number_legal 4 run_limit
-piece_legal (CountPiece count) = number_legal 4 count
-piece_legal (NodePiece row) = node.legal row
-piece_legal (QuotaPiece row) = quota.legal (flagged_quota row)
-piece_legal (TemplatePiece row) = template.legal row
-piece_legal (AutoPiece row) = auto.legal row
-piece_legal (GroupPiece row) = group.legal row
-piece_legal (ScreenPiece row) = screen.legal row
-piece_legal (ExceptPiece row) = except.legal row
-piece_legal (JobPiece row) = job.legal row
-piece_legal (ActPiece row) = act.legal row
-piece_legal (AuditPiece row) = audit.legal row
+piece_legal piece = (spelling piece).legal
 
 -- whether it meets the limits of rows
 abbrev pub piece_meets : Piece → Bool

@@ -5,8 +5,8 @@ ghost use Rattle.record_fields.specs.Writers.{Writes};
 ghost use Rattle.image_codec.specs.Pieces.{lent, longest_piece, piece_spelled, piece_meets, piece_legal};
 
 use crate::jobs::put_job;
-use crate::logs::{audit_of, put_act, put_audit};
-use crate::nodes::{node_of, put_node};
+use crate::logs::{AuditRef, put_act, put_audit};
+use crate::nodes::{NodeRef, put_node};
 use crate::objects::{put_auto, put_except, put_group, put_quota, put_screen, put_template};
 use crate::parts::Part;
 use crate::row_ref::RowRef;
@@ -29,19 +29,13 @@ pub fn encode_row(row: &RowRef<'_>, into: &mut [u8]) -> usize
 }
 
 /// Writes a piece at a place, as far as there is room.
+#[inline(always)]
 pub fn put_piece(piece: &RowRef<'_>, into: &mut [u8], at: usize) -> usize
     requires { at ≤ length into.old }
     ensures written { Writes into.old at into.new result (piece_spelled (lent piece.now)) }
     ensures legal { piece_meets (lent piece.now) ≡ true → piece_legal (lent piece.now) ≡ true }
 {
-    if let Some(node) = node_of(piece) {
-        return put_node(&node, into, at);
-    }
-    if let Some(entry) = audit_of(piece) {
-        return put_audit(&entry, into, at);
-    }
     match *piece {
-        RowRef::Node { .. } | RowRef::Audit { .. } => unreachable!(),
         RowRef::Start {
             last_moment,
             run_limit,
@@ -50,6 +44,30 @@ pub fn put_piece(piece: &RowRef<'_>, into: &mut [u8], at: usize) -> usize
             U32Field::put(&run_limit, into, after)
         }
         RowRef::Count(count) => U32Field::put(&count, into, at),
+        RowRef::Node {
+            number,
+            parent,
+            name,
+            folder,
+            length,
+            owner,
+            created,
+            modified,
+            accessed,
+        } => {
+            let node = NodeRef {
+                number,
+                parent,
+                name,
+                folder,
+                length,
+                owner,
+                created,
+                modified,
+                accessed,
+            };
+            put_node(&node, into, at)
+        }
         RowRef::Quota(row) => put_quota(row, into, at),
         RowRef::Template(row) => put_template(row, into, at),
         RowRef::Auto(row) => put_auto(row, into, at),
@@ -58,5 +76,23 @@ pub fn put_piece(piece: &RowRef<'_>, into: &mut [u8], at: usize) -> usize
         RowRef::Except(row) => put_except(row, into, at),
         RowRef::Job(row) => put_job(row, into, at),
         RowRef::Act(row) => put_act(&row, into, at),
+        RowRef::Audit {
+            moment,
+            active,
+            owner,
+            folder,
+            screen,
+            name,
+        } => {
+            let entry = AuditRef {
+                moment,
+                active,
+                owner,
+                folder,
+                screen,
+                name,
+            };
+            put_audit(&entry, into, at)
+        }
     }
 }

@@ -8,7 +8,7 @@ ghost use Rattle.image_codec.specs.Images.{image_in};
 ghost use Rattle.image_codec.specs.Sections.{Pauses, no_rows};
 
 use crate::encoding::LONGEST_PIECE;
-use crate::reading::go_on;
+use crate::reading::{Pause, go_on};
 use crate::section::Section;
 use fsrm_base::List;
 use fsrm_model::Rows;
@@ -85,7 +85,7 @@ impl ImageIn {
         Ok(reader.rows)
     }
 
-    // Keeps bytes of a long row for later.
+    // Takes bytes, and reads none yet.
     fn hold(&mut self, own: &[u8]) -> Result<(), CodecFault>
         requires { length own.now ≤ self.old.len - self.old.came }
         ensures reads { IfOk result (λ u. ReadsOn self.old own.now self.new) }
@@ -104,22 +104,27 @@ impl ImageIn {
         ensures pauses { IfOk result (λ cut. Pauses self.new.section self.new.rows self.new.still self.new.held.items cut) }
         ensures damaged { (place : ℕ) → result ≡ Err (BadRecord place) → (left : ℕ) × (place ≡ self.old.came + length own.now - left) × ((more : Items ℕ) → resumed self.old (own.now ++ more) ≡ Err (IllegalFlaw (left + length more))) }
     {
-        let mut bytes = copied(self.alloc, self.held.as_slice())?;
-        extend(&mut bytes, own)?;
-        self.came += own.len() as u64;
+        self.hold(own)?;
         match go_on(
             self.alloc,
             &mut self.rows,
             self.section,
             self.still,
-            bytes.as_slice(),
+            self.held.as_slice(),
         ) {
-            Ok(pause) => {
-                self.held = copied(self.alloc, pause.rest)?;
-                self.due = due_after(pause.rest.len());
-                self.section = pause.section;
-                self.still = pause.still;
-                Ok(pause.cut)
+            Ok(
+                Pause {
+                    section,
+                    still,
+                    rest,
+                    cut,
+                },
+            ) => {
+                self.held = copied(self.alloc, rest)?;
+                self.due = due_after(self.held.len());
+                self.section = section;
+                self.still = still;
+                Ok(cut)
             }
             Err(FieldFault::Flawed(Flaw::Illegal { left })) => Err(bad_record(self.came, left)),
             Err(FieldFault::Flawed(Flaw::Truncated { left: _ })) => unreachable!(),

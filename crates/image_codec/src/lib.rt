@@ -16,24 +16,24 @@
 //! that damage to a count, which may make a row longer than any row of a store, is told at its place too.
 #![tactic(auto)]
 
-pub mod actions;
-pub mod choices;
-pub mod encoding;
-pub mod image_in;
-pub mod image_out;
-pub mod jobs;
+mod actions;
+mod choices;
+mod encoding;
+mod image_in;
+mod image_out;
+mod jobs;
 pub mod laws;
-pub mod lengths;
-pub mod lent;
-pub mod logs;
-pub mod nodes;
-pub mod objects;
-pub mod parts;
-pub mod reading;
-pub mod row_pieces;
-pub mod row_ref;
-pub mod section;
-pub mod sections;
+mod lengths;
+mod lent;
+mod logs;
+mod nodes;
+mod objects;
+mod parts;
+mod reading;
+mod row_pieces;
+mod row_ref;
+mod section;
+mod sections;
 
 pub use encoding::encode_row;
 pub use image_in::ImageIn;

@@ -1,14 +1,12 @@
 //! Entries of the logs.
 
-ghost use Rattle.std.specs.Prelude.{◌≡◌, ◌≤◌, true, false, length, MatchOption};
+ghost use Rattle.std.specs.Prelude.{◌≡◌, ◌≤◌, true, length};
 ghost use Rattle.record_fields.specs.Writers.{Writes};
 ghost use Rattle.image_codec.specs.Nodes.{audit_lent};
 ghost use Rattle.image_codec.specs.Parts.{is_short};
-ghost use Rattle.image_codec.specs.Pieces.{AuditPiece, is_audit, lent};
 ghost use Rattle.image_codec.specs.Rows.{act as act_format, audit as audit_format};
 
 use crate::parts::{Part, put_name};
-use crate::row_ref::RowRef;
 use fsrm_model::{ActRow, AuditRow};
 use record_codec::ActionKindField;
 use record_fields::{
@@ -106,30 +104,6 @@ fn lend_audit(entry: &AuditRow) -> AuditRef<'_>
         folder: entry.folder,
         screen: entry.screen,
         name: entry.name.as_str(),
-    }
-}
-
-/// The entry of the log of audits that a piece is.
-pub fn audit_of<'a>(piece: &RowRef<'a>) -> Option<AuditRef<'a>>
-    ensures { MatchOption result (is_audit (lent piece.now) ≡ false) (λ entry. lent piece.now ≡ AuditPiece (audit_lent entry)) }
-{
-    match *piece {
-        RowRef::Audit {
-            moment,
-            active,
-            owner,
-            folder,
-            screen,
-            name,
-        } => Some(AuditRef {
-            moment,
-            active,
-            owner,
-            folder,
-            screen,
-            name,
-        }),
-        _ => None,
     }
 }
 

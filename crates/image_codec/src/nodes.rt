@@ -1,14 +1,12 @@
 //! Rows of folders and files.
 
-ghost use Rattle.std.specs.Prelude.{◌≡◌, ◌≤◌, true, false, length, MatchOption};
+ghost use Rattle.std.specs.Prelude.{◌≡◌, ◌≤◌, true, length};
 ghost use Rattle.record_fields.specs.Writers.{Writes};
 ghost use Rattle.image_codec.specs.Nodes.{node_lent};
 ghost use Rattle.image_codec.specs.Parts.{is_short};
-ghost use Rattle.image_codec.specs.Pieces.{NodePiece, is_node, lent};
 ghost use Rattle.image_codec.specs.Rows.{node as node_format};
 
 use crate::parts::{Part, put_name};
-use crate::row_ref::RowRef;
 use fsrm_model::NodeRow;
 use record_fields::{Field, FieldFault, Reader, TextField, TruthField, U32Field, U64Field};
 use std::alloc::Global;
@@ -80,36 +78,7 @@ fn lend_node(node: &NodeRow) -> NodeRef<'_>
     }
 }
 
-/// The folder or the file that a piece is.
-pub fn node_of<'a>(piece: &RowRef<'a>) -> Option<NodeRef<'a>>
-    ensures { MatchOption result (is_node (lent piece.now) ≡ false) (λ node. lent piece.now ≡ NodePiece (node_lent node)) }
-{
-    match *piece {
-        RowRef::Node {
-            number,
-            parent,
-            name,
-            folder,
-            length,
-            owner,
-            created,
-            modified,
-            accessed,
-        } => Some(NodeRef {
-            number,
-            parent,
-            name,
-            folder,
-            length,
-            owner,
-            created,
-            modified,
-            accessed,
-        }),
-        _ => None,
-    }
-}
-
+#[inline(always)]
 pub fn put_node(node: &NodeRef<'_>, into: &mut [u8], at: usize) -> usize
     requires { at ≤ length into.old }
     ensures written { Writes into.old at into.new result (node_format.spell (node_lent node.now)) }

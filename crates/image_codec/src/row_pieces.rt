@@ -36,6 +36,8 @@ impl<'a> RowPieces<'a> {
     }
 
     /// The next piece, or None at the end.
+    // Inlined with what it calls, so that a row is lent without a copy of its fields.
+    #[inline(always)]
     pub fn next(&mut self) -> Option<RowRef<'a>>
         requires { list_all piece_fits (pieces_left self.old) ≡ true }
         ensures { MatchOption result ((pieces_left self.old ≡ []) × (pieces_left self.new ≡ [])) (λ piece. pieces_left self.old ≡ lent piece ∷ pieces_left self.new) }
@@ -55,6 +57,7 @@ impl<'a> RowPieces<'a> {
 }
 
 // What comes first, or a row of a list, at its place.
+#[inline(always)]
 fn row_at(rows: &Rows, section: Section, place: usize) -> Option<RowRef<'_>>
     ensures piece { MatchOption result (drop place (row_pieces section rows.now) ≡ []) (λ row. drop place (row_pieces section rows.now) ≡ lent row ∷ drop (place + 1) (row_pieces section rows.now)) }
     ensures within { IfSome result (λ row. place + 1 < 2 ^ 64) }
