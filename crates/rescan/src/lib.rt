@@ -14,6 +14,7 @@
 
 mod active;
 mod changes;
+mod copies;
 mod follow;
 mod frontier;
 mod moves;

@@ -107,7 +107,7 @@ through_in K nodes v (suc most) n (suc m) l h e u =
           record { child = r.child; is = r.is; above = under_child nodes t r.child (suc m) has inner ∙ or_later (suc m == r.child) (is_under nodes r.child up) r.above }
     ]
 
-through : (K : Capacity) (nodes : List NodeRow) → IsVolume K nodes → (n m : ℕ) → is_folder nodes m ≡ true → (n == m) ≡ false → is_under nodes n m ≡ true → Through nodes n m
+pub through : (K : Capacity) (nodes : List NodeRow) → IsVolume K nodes → (n m : ℕ) → is_folder nodes m ≡ true → (n == m) ≡ false → is_under nodes n m ≡ true → Through nodes n m
 through K nodes v n m h e u = through_in K nodes v (length (chain nodes m)) n m (omega arith) h e u
 
 -- the tops after a visit are tops
