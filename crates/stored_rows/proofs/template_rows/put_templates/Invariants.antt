@@ -1,0 +1,5 @@
+use Rattle.std.proofs.Common.{◌≡◌, take, []}
+use Rattle.stored_rows.proofs.template_rows.put_templates.Given as goal
+
+abbrev pub invariant-loop-row : goal.invariant-loop-row
+invariant-loop-row l = l.tables ≡ record { templates = take l.row-index l.rows; autos = [] }
