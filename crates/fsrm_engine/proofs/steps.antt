@@ -5,3 +5,4 @@ pub mod PlaceLaws
 pub mod ScanSteps
 pub mod FinishLaws
 pub mod FlaggedParts
+pub mod RestoredLaws

@@ -18,4 +18,4 @@ pub mod SourceLaws
 pub mod TemplateLaws
 pub mod UpdateLaws
 pub mod FlagLaws
-pub mod FillLaws
+pub mod BeginLaws

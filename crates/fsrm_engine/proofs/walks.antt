@@ -1,3 +1,4 @@
 pub mod WalkLaws
 pub mod PathTexts
 pub mod SumLaws
+pub mod TaskLaws

@@ -10,7 +10,9 @@ pub mod Places
 pub mod Screening
 pub mod Sources
 pub mod Reporting
+pub mod Restored
 pub mod Walk
+pub mod Tasks
 pub mod Moves
 pub mod Arrivals
 pub mod Updated

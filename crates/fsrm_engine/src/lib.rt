@@ -14,6 +14,9 @@
 //! `finish_fresh` and `flag_unfinished` are no commands: a journal tells that a scan finished, and a store gives up the
 //! scans that did not. Neither refuses, or takes memory.
 //!
+//! `from_rows` makes an engine of the rows of a store, in which no scan may wait, and `to_rows` gives copies of an
+//! engine's rows.
+//!
 //! In every command what can refuse and what takes memory come before the first change, and then what can't fail. Only
 //! two undo a first step if memory runs out in the second: a folder is made and gets a quota, and an auto-apply quota
 //! gives quotas.
@@ -27,6 +30,7 @@ mod autos;
 mod changes;
 mod charging;
 mod commands;
+mod copying;
 mod counting;
 mod creations;
 mod due;
@@ -44,12 +48,16 @@ mod places;
 mod quota_templates;
 mod quotas;
 mod removals;
+mod restoring;
+mod rows;
 mod scanning;
 mod screening;
 mod screens;
 mod states;
+mod sums;
 mod threshold_lists;
 mod updates;
 mod usage;
 
 pub use engine::{Engine, Settings};
+pub use volume_tree::RowsFault;

@@ -63,7 +63,7 @@ impl Parts {
 
     // Those over a tree, without objects. What has memory of its own comes in steps, since the proof of a function
     // takes longer the more such parts it owns.
-    fn over(alloc: Global, tree: Tree, scans: Scans) -> Result<Parts, NoMemory>
+    pub(crate) fn over(alloc: Global, tree: Tree, scans: Scans) -> Result<Parts, NoMemory>
         ensures { IfOk result (λ parts. parts ≡ bare tree scans) }
     {
         let usage = Usage::reserve(alloc)?;

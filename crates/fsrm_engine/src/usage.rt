@@ -86,7 +86,7 @@ fn put<L: Ledger>(
 
 // Visits a folder: the folders in it are put after those that are still to be visited, and what the files in it take is
 // summed up.
-fn visit<L: Ledger>(
+pub fn visit<L: Ledger>(
     tree: &Tree,
     folder: u32,
     finger: &mut Finger,

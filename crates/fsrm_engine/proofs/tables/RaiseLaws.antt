@@ -19,7 +19,6 @@ use Rattle.thresholds.specs.Settled.{crosses_any}
 use Rattle.fsrm_engine.specs.Crossing.{is_crossing, used_before}
 use Rattle.fsrm_engine.specs.Peaks.{raised, raised_above, raised_to}
 use Rattle.fsrm_base.proofs.RowLaws.{change_same, change_none}
-use Rattle.fsrm_engine.proofs.tables.FillLaws.{row_after}
 
 raised_by : (counters : List Counter) (m : ℕ) (q : QuotaRow) (o : Option ℕ) → used_in counters q.folder ≡ o → raised counters m q ≡ option_map_or (λ used. raised_to used m q) o q
 raised_by counters m q o h = ap (λ o. option_map_or (λ used. raised_to used m q) o q) h
@@ -120,6 +119,12 @@ change_there key c (x ∷ before) q after asc =
     has_it : (rows : List _) → has_row key (key q) (rows ++ q ∷ after) ≡ true
     has_it [] = ap (λ b. b || has_row key (key q) after) (eq_same (key q))
     has_it (r ∷ rows) = or_later (key r == key q) (has_row key (key q) (rows ++ q ∷ after)) (has_it rows)
+
+-- the row at the place after some rows is the first of the others
+row_after : {X : Type 0} (before ahead : List X) (x : X) → slice_get (before ++ ahead) (length before) ≡ Some x → (rest : List X) × (ahead ≡ x ∷ rest)
+row_after [] [] x h = cc
+row_after [] (y ∷ ahead) x h = (ahead, ap (λ z. z ∷ ahead) (same_Some y x h))
+row_after (b ∷ before) ahead x h = row_after before ahead x h
 
 pub changed_next : (raise : QuotaRow → QuotaRow) (old now : List QuotaRow) (place : ℕ) (q : QuotaRow) → is_ascending folder_of now ≡ true → slice_get now place ≡ Some q → RaisedTo raise old now place → RaisedTo raise old (with_change folder_of q.folder raise now) (place + 1)
 changed_next raise old now place q asc at r =
