@@ -76,6 +76,18 @@ pub fn passes<L: Ledger>(
     does(engine, alloc, line, steps) && engine.next_act().is_none()
 }
 
+/// Has the command done that a line spells, while no act waits.
+pub fn has_done<L: Ledger>(
+    engine: &mut Engine,
+    alloc: Global,
+    end: &impl Abort,
+    line: &str,
+    steps: &mut Steps<L>,
+) {
+    assert!(end; engine.next_act().is_none());
+    assert!(end; does(engine, alloc, line.as_bytes(), steps));
+}
+
 fn refuses_a_move<L: Ledger>(
     engine: &mut Engine,
     alloc: Global,

@@ -1,12 +1,12 @@
 //! Images of a store: their bytes, and where damage is told, both worked out by hand.
 
-ghost use Rattle.std.specs.Prelude.{◌≡◌, true, IfOk};
+ghost use Rattle.std.specs.Prelude.{◌≡◌, true};
 ghost use Rattle.std.specs.List.{list_all};
 ghost use Rattle.image_codec.specs.Pieces.{pieces};
 ghost use Rattle.image_codec.specs.PiecesLeft.{piece_fits};
 
-use crate::values::{folder, one};
-use fsrm_model::{List, ReportKind, Rows};
+use crate::values::new_rows;
+use fsrm_model::{ReportKind, Rows};
 use image_codec::{CodecFault, ImageIn, ImageOut, image_len};
 use std::alloc::Global;
 use std::test::Fail;
@@ -18,29 +18,6 @@ const NEW: [u8; 99] = [
     0, 0, 0, 0, 0, 0, 0, 0, 0, 0, 0, 0, 0, 0, 0, 0, 0, 0, 0, 0, 0, 0, 0, 0, 0, 0, 0, 0, 0, 0, 0, 0,
     0, 0, 0, 0,
 ];
-
-// The same rows.
-fn new_rows(alloc: Global) -> Result<Rows, Fail>
-    ensures { IfOk result (λ R. list_all piece_fits (pieces R) ≡ true) }
-{
-    let root = folder(alloc, 0, 0, "")?;
-    Ok(Rows {
-        nodes: one(alloc, root)?,
-        quotas: List::new(alloc),
-        templates: List::new(alloc),
-        autos: List::new(alloc),
-        groups: List::new(alloc),
-        screens: List::new(alloc),
-        excepts: List::new(alloc),
-        jobs: List::new(alloc),
-        acts: List::new(alloc),
-        audits: List::new(alloc),
-        queue: List::new(alloc),
-        unvisited: List::new(alloc),
-        run_limit: 60,
-        last_moment: 0,
-    })
-}
 
 // What is written into buffers of one length.
 fn written(alloc: Global, rows: &Rows, size: usize) -> Result<Vec<u8>, Fail>

@@ -53,9 +53,13 @@ mod regions;
 #[cfg(test)]
 mod rows;
 #[cfg(test)]
+mod rows_back;
+#[cfg(test)]
 mod runs;
 #[cfg(test)]
 mod scans;
+#[cfg(test)]
+mod spoilt_rows;
 #[cfg(test)]
 mod trees;
 #[cfg(test)]

@@ -3,7 +3,7 @@
 
 ghost use Rattle.std.specs.Prelude.{◌≡◌};
 
-use crate::engines::does;
+use crate::engines::has_done;
 use fsrm_engine::Engine;
 use fsrm_model::{Capacity, Ledger, Steps, Weightless};
 use std::alloc::Global;
@@ -27,18 +27,6 @@ const ROUNDS: u32 = 10;
 const TAKEN: u64 = 4_096_000_000;
 
 const QUOTA: &str = "100 dirquota quota add /Path:D:\\ /Limit:1tb";
-
-// Has the command done that a line spells, while no act waits.
-fn has_done<L: Ledger>(
-    engine: &mut Engine,
-    alloc: Global,
-    end: &impl Abort,
-    line: &str,
-    steps: &mut Steps<L>,
-) {
-    assert!(end; engine.next_act().is_none());
-    assert!(end; does(engine, alloc, line.as_bytes(), steps));
-}
 
 fn create<L: Ledger>(
     engine: &mut Engine,

@@ -18,7 +18,8 @@ fn actions(alloc: Global) -> Result<List<Action>, Fail> {
     one(alloc, action)
 }
 
-fn thresholds(alloc: Global) -> Result<List<Threshold>, Fail> {
+/// A threshold of 85 percent whose action ran.
+pub fn thresholds(alloc: Global) -> Result<List<Threshold>, Fail> {
     let threshold = Threshold {
         percent: 85,
         actions: actions(alloc)?,
@@ -55,7 +56,8 @@ fn act() -> ActRow {
     }
 }
 
-fn audit(alloc: Global) -> Result<AuditRow, Fail> {
+/// An entry of the audit log.
+pub fn audit(alloc: Global) -> Result<AuditRow, Fail> {
     let name = text(alloc)?;
     Ok(AuditRow {
         moment: 1,
@@ -74,7 +76,8 @@ fn nodes_and_logs_are_copied(rt: HostRuntime) -> Result<(), Fail> {
     copied(rt.alloc(), audit(rt.alloc()))
 }
 
-fn template(alloc: Global) -> Result<TemplateRow, Fail> {
+/// A template whose action ran.
+pub fn template(alloc: Global) -> Result<TemplateRow, Fail> {
     let name = text(alloc)?;
     let thresholds = thresholds(alloc)?;
     Ok(TemplateRow {
@@ -102,7 +105,8 @@ fn quotas_and_templates_are_copied(rt: HostRuntime) -> Result<(), Fail> {
     copied(rt.alloc(), auto(rt.alloc()))
 }
 
-fn group(alloc: Global) -> Result<GroupRow, Fail> {
+/// A file group.
+pub fn group(alloc: Global) -> Result<GroupRow, Fail> {
     let name = text(alloc)?;
     let members = one(alloc, text(alloc)?)?;
     Ok(GroupRow {

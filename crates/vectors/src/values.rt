@@ -1,9 +1,12 @@
 //! Values that the tests are made of: the one place to mend if a public type gets a field.
 
 ghost use Rattle.std.specs.Prelude.{◌≡◌, [], ◌∷◌, true, IfOk, codes};
+ghost use Rattle.std.specs.List.{list_all};
 ghost use Rattle.fsrm_objects.specs.Tables.{has_short_texts};
+ghost use Rattle.image_codec.specs.Pieces.{pieces};
+ghost use Rattle.image_codec.specs.PiecesLeft.{piece_fits};
 
-use fsrm_model::{Capacity, List, NodeRow, Path, QuotaRow, QuotaState, Text};
+use fsrm_model::{Capacity, List, NodeRow, Path, QuotaRow, QuotaState, Rows, Text};
 use std::alloc::Global;
 use std::test::Fail;
 
@@ -69,6 +72,29 @@ pub fn one<T: Drop>(alloc: Global, item: T) -> Result<List<T>, Fail>
     let mut list = List::new(alloc);
     list.push(item)?;
     Ok(list)
+}
+
+/// The rows of a new store.
+pub fn new_rows(alloc: Global) -> Result<Rows, Fail>
+    ensures { IfOk result (λ R. list_all piece_fits (pieces R) ≡ true) }
+{
+    let root = folder(alloc, 0, 0, "")?;
+    Ok(Rows {
+        nodes: one(alloc, root)?,
+        quotas: List::new(alloc),
+        templates: List::new(alloc),
+        autos: List::new(alloc),
+        groups: List::new(alloc),
+        screens: List::new(alloc),
+        excepts: List::new(alloc),
+        jobs: List::new(alloc),
+        acts: List::new(alloc),
+        audits: List::new(alloc),
+        queue: List::new(alloc),
+        unvisited: List::new(alloc),
+        run_limit: 60,
+        last_moment: 0,
+    })
 }
 
 /// The text `text`.
