@@ -1,6 +1,10 @@
 pub mod Crashes
+pub mod EachMoments
 pub mod Histories
 pub mod Kept
 pub mod Members
+pub mod OutsideLaws
+pub mod Runs
+pub mod Settling
 pub mod Shown
 pub mod Stages

@@ -5,6 +5,9 @@ pub mod Shown
 pub mod Parts
 pub mod Changes
 pub mod Moments
+pub mod Settling
+pub mod Members
+pub mod Runs
 pub mod Plan
 pub mod Contents
 pub mod Record

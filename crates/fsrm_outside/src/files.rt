@@ -25,14 +25,14 @@ enum Opened {
     NotYet,
     // Both files, and whether the folder's names of them are stable.
     Both(PartFile, PartFile, bool),
-    // One of them couldn't be opened.
+    // One of them couldn't be opened, or a sync failed.
     Refused,
 }
 
 /// The files `fsrm.store.0` and `fsrm.store.1` of the current folder.
 ///
-/// They are opened once, both together, and made if they are missing. If one can't be opened, all calls fail from then
-/// on. No clause can say what the system gives or takes.
+/// They are opened once, both together, and made if they are missing. If one can't be opened, or a sync fails, all calls
+/// fail from then on. No clause can say what the system gives or takes.
 #[derive(Drop)]
 pub struct Files {
     opened: Opened,
@@ -78,7 +78,17 @@ impl Files {
     }
 
     /// Makes stable what was written to both, and the first time also what was there before and the names of the files.
+    /// After a sync that failed the system may take what was written for stable, and a further one would succeed; so
+    /// no call does from then on.
     pub fn sync(&mut self, rt: &HostRuntime) -> bool {
+        let is_stable = self.sync_both(rt);
+        if !is_stable {
+            self.opened = Opened::Refused;
+        }
+        is_stable
+    }
+
+    fn sync_both(&mut self, rt: &HostRuntime) -> bool {
         match &mut self.opened {
             Opened::Both(zero, one, is_named) => {
                 sync_file(zero) && sync_file(one) && sync_folder(rt, is_named)

@@ -25,7 +25,8 @@ const MOST: u64 = 1 << 62;
 /// The first call of the disk opens both files, and makes those that are missing. So nothing is left in the folder by a
 /// process that keeps nothing. If one of them can't be opened, this call has failed, and so has each later call of the
 /// disk: neither file is used. A sync syncs the files that were written since the last one that succeeded. The first
-/// also syncs what was there before, and the folder, which the names of new files are kept in.
+/// also syncs what was there before, and the folder, which the names of new files are kept in. If a sync fails, so does
+/// each later call of the disk, since the system may then take for stable what isn't.
 #[derive(Drop)]
 pub struct RealOutside {
     system: HostRuntime,
