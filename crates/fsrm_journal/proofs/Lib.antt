@@ -8,9 +8,12 @@ pub mod NextLaws
 pub mod NewStore
 pub mod Numbers
 pub mod Quiet
+pub mod Readings
 pub mod Staging
+pub mod Stores
 pub mod Switched
 pub mod Tails
 pub mod Turns
+pub mod TwoReaders
 pub mod Untils
 pub mod Walks

@@ -18,7 +18,7 @@ use Rattle.fsrm_journal.specs.declared.fault.JournalFault.TheVariants.{NoStore}
 use Rattle.fsrm_journal.specs.declared.heads.Head.{Head}
 use Rattle.fsrm_journal.proofs.HeadBytes.{spelled}
 use Rattle.fsrm_journal.proofs.NextLaws.{gate_at}
-use Rattle.fsrm_journal.proofs.Quiet.{at_clock, after_clock}
+use Rattle.fsrm_outside.proofs.Settling.{at_clock, after_clock}
 use Rattle.fsrm_journal.proofs.Turns.{ShutOrOpen, alone, fresh_is, shut_gate, shut_or_open}
 
 -- a gate is written

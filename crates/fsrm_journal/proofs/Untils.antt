@@ -6,7 +6,7 @@ use Rattle.fsrm_outside.specs.Moments.{EachImage}
 use Rattle.fsrm_outside.specs.Parts.{Parts}
 use Rattle.fsrm_outside.proofs.Stages.{DiskLaws, later_forth}
 use Rattle.fsrm_journal.specs.Halves.{Until}
-use Rattle.fsrm_journal.proofs.Quiet.{at_clock, after_clock}
+use Rattle.fsrm_outside.proofs.Settling.{at_clock, after_clock}
 
 -- the moment didn't come
 pub until_never : {D : Type 0} {clock : D → Option ℕ} {images : D → ℕ → Parts → Type 0} {P : Parts → Type 0} (Q : Parts → Type 0) {old : D} (new : D) → EachImage clock images P old new → Until clock images P Q old new

@@ -9,7 +9,8 @@ use Rattle.fsrm_model.specs.values.Limits.{longest_entry}
 use Rattle.fsrm_journal.specs.Next.{length_at, has_length, next_length, with_body, record_at}
 use Rattle.fsrm_outside.specs.Parts.{Parts, part_of}
 use Rattle.fsrm_outside.specs.declared.traits.Part.{Part}
-use Rattle.fsrm_journal.specs.Reading.{IsBody, Comes, Read, Stable, log_at}
+use Rattle.fsrm_journal.specs.Reading.{IsBody, Comes, Read, log_at}
+use Rattle.fsrm_outside.specs.Settling.{Stable}
 use Rattle.fsrm_journal.specs.Records.{counted, records, Log, Holds, Settled}
 use Rattle.fsrm_journal.proofs.Files.{records-append}
 use Rattle.fsrm_base.proofs.TestLaws.{both, both_true}

@@ -1,5 +1,5 @@
 -- What a reader comes to in a half.
-use Rattle.std.specs.Prelude.{◌≡◌, ◌⊎◌, ℕ, ◌+◌, ◌≤◌, Option, None, Some, Ok, List, [], ◌∷◌, length, take, drop}
+use Rattle.std.specs.Prelude.{◌≡◌, ℕ, ◌+◌, ◌≤◌, None, Some, Ok, List, [], ◌∷◌, ◌++◌, length, take, drop}
 use Rattle.fsrm_model.specs.values.Limits.{longest_entry}
 use Rattle.fsrm_outside.specs.Parts.{Parts, part_of, other}
 use Rattle.fsrm_outside.specs.declared.traits.Part.{Part}
@@ -25,17 +25,11 @@ pub record Read (half : List ℕ) (place : ℕ) (bodies : List (List ℕ)) : Typ
   pub comes : Comes half place bodies end
   pub stops : record_at half end ≡ Ok None
 
--- a crash leaves what a read gives
-abbrev pub Stable : {D : Type 0} → (D → Option Parts) → (D → Option ℕ) → (D → ℕ → Parts → Type 0) → D → Type 0
-Stable reads clock images disk = (t : ℕ) (image : Parts) → clock disk ≡ Some t → images disk t image → reads disk ≡ Some image
-
--- From a moment on a crash leaves what a read gives. It has come, unless the call failed in this way. The first call
--- of the disk brings it: it is at most one moment after old, or no later moment has come.
-pub record Settles {D : Type 0} (reads : D → Option Parts) (clock : D → Option ℕ) (images : D → ℕ → Parts → Type 0) (failed : Type 0) (old disk : D) : Type 0 where
-  pub since : ℕ
-  pub after : (t m : ℕ) (image : Parts) → clock disk ≡ Some t → since ≤ m → m ≤ t → images disk m image → reads disk ≡ Some image
-  pub comes : (t : ℕ) → clock disk ≡ Some t → (since ≤ t) ⊎ failed
-  pub soon : (s t : ℕ) → clock old ≡ Some s → clock disk ≡ Some t → (since ≤ s + 1) ⊎ (t ≤ s + 1)
+-- One reader has come to these bodies and stands here; the other came on from there, to some more.
+pub record GoesOn (half : List ℕ) (bodies others : List (List ℕ)) (end stop : ℕ) : Type 0 where
+  pub more : List (List ℕ)
+  pub are : others ≡ bodies ++ more
+  pub comes : Comes half end more stop
 
 -- Where records are added from a place of the half that rules on. All that stands before it is the lead: the head, the
 -- image, and the records that were read.

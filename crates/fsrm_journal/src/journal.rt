@@ -12,7 +12,7 @@ ghost use Rattle.fsrm_journal.specs.Legal.{IsLegal};
 ghost use Rattle.fsrm_outside.specs.declared.traits.Part.TheVariants.{Zero, One};
 ghost use Rattle.fsrm_outside.specs.Moments.{EachImage};
 ghost use Rattle.fsrm_outside.specs.Parts.{Parts, part_of, other};
-ghost use Rattle.fsrm_journal.specs.Reading.{Settles};
+ghost use Rattle.fsrm_outside.specs.Settling.{Settles};
 ghost use Rattle.fsrm_journal.specs.Records.{batch, counted, longest_record, records, Holds, HoldsAllOrNone, Log, Settled};
 ghost use Rattle.fsrm_journal.specs.declared.fault.JournalFault.TheVariants.{AlreadyStore, Damaged, DiskFault};
 
@@ -121,7 +121,10 @@ fn is_open_beside(ruling: Part, zero: &[u8], one: &[u8]) -> bool
 impl Journal {
     ghost use Rattle.fsrm_journal.specs.Opened.{IsOpened, IsRefused, ReadsOn, StandsOn};
     ghost use Rattle.fsrm_journal.specs.Next.{record_at, Tells};
-    ghost use Rattle.fsrm_journal.specs.Reading.{log_at, Comes, Stable};
+    ghost use Rattle.fsrm_journal.specs.Reading.{log_at, Comes};
+    ghost use Rattle.fsrm_outside.specs.Settling.{Stable};
+    ghost use Rattle.fsrm_journal.specs.Stores.{image_there, HoldsWithOrWithout, Holding, ReadUpTo, Stands, StandsAt};
+    ghost use Rattle.fsrm_journal.specs.declared.heads.Head.{Head};
 
     /// Finds the half that rules, and reads its head, which is legal. The image comes next, and then the records. The
     /// first call of the disk makes stable what is read, and nothing is written: from then on a crash leaves what is
@@ -133,9 +136,11 @@ impl Journal {
     /// a record.
     pub fn open_at<D: Disk>(alloc: Global, disk: &mut D) -> Result<(Journal, Head), JournalFault>
         ensures opened { ForSome (D.reads disk.old) (λ parts. IfOk result (λ opened. IsOpened parts opened.0 opened.1)) }
+        ensures reading { ForSome (D.reads disk.old) (λ parts. IfOk result (λ opened. ReadUpTo opened.1 [] [] parts opened.0)) }
         ensures beside { ForSome (D.reads disk.old) (λ parts. IfOk result (λ opened. 0 < length (part_of (other opened.0.ruling) parts))) }
         ensures legal { IfOk result (λ opened. IsLegal opened.1) }
         ensures none { IfOk result (λ opened. opened.0.held ≡ 0) }
+        ensures holding { IfOk result (λ opened. Holding [] opened.0) }
         ensures group { IfOk result (λ opened. opened.0.group ≡ 1) }
         ensures refused { ForSome (D.reads disk.old) (λ parts. IfErr result (λ fault. IsRefused parts fault)) }
         ensures only { result ≢ Err AlreadyStore }
@@ -183,9 +188,14 @@ impl Journal {
         ensures count { IfOk result (λ n. n ≤ length into.new) }
         ensures bytes { ForSome (D.reads disk.old) (λ parts. self.old.len ≡ length (part_of self.old.ruling parts)
             → IfOk result (λ n. take n into.new ≡ take (length into.old) (take (self.old.image_end - self.old.end) (drop self.old.end (part_of self.old.ruling parts))))) }
+        ensures reading { (parts : Parts) (head : Head) (image : List ℕ) → D.reads disk.old ≡ Some parts → ReadUpTo head image [] parts self.old
+            → IfOk result (λ n. ReadUpTo head (image ++ take n into.new) [] parts self.new) }
+        ensures whole { (parts : Parts) (head : Head) (image : List ℕ) → D.reads disk.old ≡ Some parts → ReadUpTo head image [] parts self.old → 0 < length into.old
+            → IfOk result (λ n. n ≡ 0 → image ≡ image_there head (part_of self.old.ruling parts)) }
         ensures end { IfOk result (λ n. self.new.end ≡ self.old.end + n) }
         ensures err { OnErr result (self.new.end ≡ self.old.end) }
         ensures same { ReadsOn self.old self.new }
+        ensures stable { Stable D.reads D.disk_clock D.images disk.old → Stable D.reads D.disk_clock D.images disk.new }
         ensures reads { D.reads disk.new ≡ D.reads disk.old }
         ensures crash { Through D.disk_clock D.images Same disk.old disk.new }
         ensures by { D.by_disk disk.old disk.new }
@@ -217,6 +227,10 @@ impl Journal {
         ensures only { OnErr result ((result ≡ Err DiskFault) ⊎ ((place : ℕ) × (result ≡ Err (Damaged self.old.ruling place)))) }
         ensures body { ForSome (D.reads disk.old) (λ parts. self.old.len ≡ length (part_of self.old.ruling parts)
             → IfOk result (λ found. IfSome found (λ at. take at.1 into.new ≡ take at.1 (drop at.0 (part_of self.old.ruling parts))))) }
+        ensures reading { (parts : Parts) (head : Head) (image : List ℕ) (bodies : List (List ℕ)) → D.reads disk.old ≡ Some parts → ReadUpTo head image bodies parts self.old
+            → IfOk result (λ found. IfSome found (λ at. ReadUpTo head image (bodies ++ take at.1 into.new ∷ []) parts self.new)) }
+        ensures store { (parts : Parts) (head : Head) (image : List ℕ) (bodies : List (List ℕ)) → D.reads disk.old ≡ Some parts → ReadUpTo head image bodies parts self.old → head.image ≡ length image
+            → Stable D.reads D.disk_clock D.images disk.old → IfOk result (λ found. found ≡ None → Stands D.reads D.disk_clock D.images head image bodies self.new disk.new) }
         ensures size { IfOk result (λ found. IfSome found (λ at. (1 ≤ at.1) × (at.1 ≤ longest_entry))) }
         ensures place { IfOk result (λ found. IfSome found (λ at. at.0 ≡ self.old.end + 5)) }
         ensures end { IfOk result (λ found. IfSome found (λ at. self.new.end ≡ at.0 + at.1)) }
@@ -227,6 +241,7 @@ impl Journal {
         ensures ready { ForSome (D.reads disk.old) (λ parts. self.old.len ≡ length (part_of self.old.ruling parts)
             → IfOk result (λ found. found ≡ None → ForSome (D.reads disk.new) (λ now. self.new.end < length (part_of self.new.ruling now)))) }
         ensures same { ReadsOn self.old self.new }
+        ensures stable { Stable D.reads D.disk_clock D.images disk.old → Stable D.reads D.disk_clock D.images disk.new }
         ensures reads { D.reads disk.new ≡ D.reads disk.old }
         ensures crash { Through D.disk_clock D.images Same disk.old disk.new }
         ensures by { D.by_disk disk.old disk.new }
@@ -256,6 +271,7 @@ impl Journal {
         ensures between { result ≡ self.now.end - self.now.image_end }
         ensures records { (half : List ℕ) (log : Log) (before bodies : List (List ℕ)) → Comes half self.now.image_end before (length log.lead)
             → self.now.end ≡ length (log.lead ++ records bodies) → result ≡ length (records (before ++ bodies)) }
+        ensures store { (head : Head) (image : List ℕ) (bodies : List (List ℕ)) (parts : Parts) → StandsAt head image bodies parts self.now → result ≡ length (records bodies) }
     {
         self.end.saturating_sub(self.image_end)
     }
@@ -280,6 +296,8 @@ impl Journal {
         ensures bytes { self.new.bytes.items ≡ self.old.bytes.items }
         ensures image { self.new.image_end ≡ self.old.image_end }
         ensures stands { StandsOn self.old self.new }
+        ensures store { (head : Head) (image : List ℕ) (bodies : List (List ℕ)) (parts : Parts) → StandsAt head image bodies parts self.old → StandsAt head image bodies parts self.new }
+        ensures holding { Holding [] self.new }
     {
         self.bytes.try_reserve(n as usize * LONGEST_RECORD)?;
         self.group = n;
@@ -292,6 +310,8 @@ impl Journal {
         requires most { length body.now ≤ longest_entry }
         requires room { self.old.held < self.old.group }
         ensures held { (bodies : List (List ℕ)) → length bodies ≡ self.old.held → self.old.bytes.items ≡ batch bodies → self.new.bytes.items ≡ batch (bodies ++ body.now ∷ []) }
+        ensures holding { (held : List (List ℕ)) → Holding held self.old → Holding (held ++ body.now ∷ []) self.new }
+        ensures store { (head : Head) (image : List ℕ) (bodies : List (List ℕ)) (parts : Parts) → StandsAt head image bodies parts self.old → StandsAt head image bodies parts self.new }
         ensures count { self.new.held ≡ self.old.held + 1 }
         ensures group { self.new.group ≡ self.old.group }
         ensures ruling { self.new.ruling ≡ self.old.ruling }
@@ -315,6 +335,12 @@ impl Journal {
         ensures any_moment { (log : Log) (bodies held : List (List ℕ)) → length held ≡ self.old.held → self.old.bytes.items ≡ batch held
             → Settled D.reads D.disk_clock D.images log bodies self.old.ruling self.old.end disk.old
             → EachImage D.disk_clock D.images (HoldsAllOrNone log bodies held) disk.old disk.new }
+        ensures store { (head : Head) (image : List ℕ) (bodies held : List (List ℕ)) → Stands D.reads D.disk_clock D.images head image bodies self.old disk.old → Holding held self.old
+            → OnOk result (Stands D.reads D.disk_clock D.images head image (bodies ++ held) self.new disk.new) }
+        ensures leaves { (head : Head) (image : List ℕ) (bodies held : List (List ℕ)) → Stands D.reads D.disk_clock D.images head image bodies self.old disk.old → Holding held self.old
+            → EachImage D.disk_clock D.images (HoldsWithOrWithout self.old.ruling head image bodies held) disk.old disk.new }
+        ensures holding { OnOk result (Holding [] self.new) }
+        ensures end { 0 < self.old.held → OnOk result (self.new.end ≡ self.old.end + 1 + length self.old.bytes.items) }
         ensures gate { 0 < self.old.held → OnOk result (ForSome (D.reads disk.new) (λ parts. slice_index (part_of self.new.ruling parts) self.new.end ≡ 0)) }
         ensures none { OnOk result (self.new.held ≡ 0) }
         ensures empty { OnOk result (self.new.bytes.items ≡ []) }
@@ -354,6 +380,12 @@ impl Journal {
             → OnOk result (Settled D.reads D.disk_clock D.images log (bodies ++ body.now ∷ []) self.new.ruling self.new.end disk.new) }
         ensures any_moment { (log : Log) (bodies : List (List ℕ)) → Settled D.reads D.disk_clock D.images log bodies self.old.ruling self.old.end disk.old
             → EachImage D.disk_clock D.images (HoldsAllOrNone log bodies (body.now ∷ [])) disk.old disk.new }
+        ensures store { (head : Head) (image : List ℕ) (bodies : List (List ℕ)) → Stands D.reads D.disk_clock D.images head image bodies self.old disk.old
+            → OnOk result (Stands D.reads D.disk_clock D.images head image (bodies ++ body.now ∷ []) self.new disk.new) }
+        ensures leaves { (head : Head) (image : List ℕ) (bodies : List (List ℕ)) → Stands D.reads D.disk_clock D.images head image bodies self.old disk.old
+            → EachImage D.disk_clock D.images (HoldsWithOrWithout self.old.ruling head image bodies (body.now ∷ [])) disk.old disk.new }
+        ensures holding { OnOk result (Holding [] self.new) }
+        ensures end { OnOk result (self.new.end ≡ self.old.end + 5 + length body.now) }
         ensures gate { OnOk result (ForSome (D.reads disk.new) (λ parts. slice_index (part_of self.new.ruling parts) self.new.end ≡ 0)) }
         ensures none { OnOk result (self.new.held ≡ 0) }
         ensures group { self.new.group ≡ self.old.group }

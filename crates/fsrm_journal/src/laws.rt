@@ -1,12 +1,18 @@
 //! What the definitions of the journal say together.
 
-ghost use Rattle.std.specs.Prelude.{◌≡◌, ◌≤◌, ◌+◌, ℕ, List, [], ◌∷◌, ◌++◌, All, Ok, Some, None, length};
+ghost use Rattle.std.specs.Prelude.{◌≡◌, ◌⊎◌, ◌≤◌, ◌+◌, ℕ, List, [], ◌∷◌, ◌++◌, All, Ok, Some, None, length};
 ghost use Rattle.fsrm_model.specs.values.Limits.{longest_entry};
 ghost use Rattle.fsrm_outside.specs.Parts.{Parts, part_of, other};
 ghost use Rattle.fsrm_journal.specs.Next.{record_at};
-ghost use Rattle.fsrm_journal.specs.Halves.{Certain, Filling, Knows};
-ghost use Rattle.fsrm_journal.specs.Opened.{IsOpened, ReadsOn, StandsOn};
-ghost use Rattle.fsrm_journal.specs.Reading.{IsBody, Comes, Read};
+ghost use Rattle.fsrm_journal.specs.Halves.{Certain, Filling, Fresh, Knows, Stays};
+ghost use Rattle.fsrm_journal.specs.Opened.{judged_parts, IsOpened, ReadsOn, StandsOn};
+ghost use Rattle.fsrm_journal.specs.Reading.{IsBody, Comes, GoesOn, Read};
+ghost use Rattle.fsrm_outside.specs.Settling.{Stable};
+ghost use Rattle.fsrm_journal.specs.Sight.{Sees};
+ghost use Rattle.fsrm_journal.specs.Stores.{Changing, HoldsStore, ReadUpTo, SameStore, Stands, StandsAt};
+ghost use Rattle.fsrm_outside.specs.Kept.{KeepsDisk};
+ghost use Rattle.fsrm_outside.specs.Moments.{EachNow};
+ghost use Rattle.fsrm_outside.specs.declared.traits.Part.{Part};
 ghost use Rattle.fsrm_journal.specs.declared.heads.Head.{Head};
 ghost use Rattle.fsrm_journal.specs.declared.journal.Journal.{Journal};
 ghost use Rattle.fsrm_journal.specs.Records.{records, Holds, Log, Settled};
@@ -61,4 +67,41 @@ pub fn a_change_may_be_given_up<D: Disk>()
         → Holds log bodies old → part_of log.ruling old ≡ half → journal.ruling ≡ log.ruling → journal.end ≡ length (log.lead ++ records bodies)
         → now.ruling ≡ log.ruling → now.lead ≡ log.lead → now.beside ≡ part_of (other log.ruling) parts
         → Settled D.reads D.disk_clock D.images now bodies journal.ruling journal.end synced }
+{}
+
+/// Bytes hold one store at most. The half that rules has a whole head.
+pub fn bytes_hold_one_store()
+    ensures one { (parts : Parts) (ruling also : Part) (head next : Head) (image new : List ℕ) (bodies more : List (List ℕ)) → HoldsStore ruling head image bodies parts → HoldsStore also next new more parts
+        → SameStore ruling also head next image new bodies more }
+    ensures whole { (parts : Parts) (ruling : Part) → judged_parts parts ≡ Ok ruling → 48 ≤ length (part_of ruling parts) }
+    // A new half, and a half that stays.
+    ensures fresh { (ruling : Part) (head : Head) (image : List ℕ) (parts : Parts) → Fresh ruling head image parts → HoldsStore ruling head image [] parts }
+    ensures stays { (ruling : Part) (head : Head) (image : List ℕ) (bodies : List (List ℕ)) (old parts : Parts) → HoldsStore ruling head image bodies old → Stays ruling (part_of ruling old) parts
+        → HoldsStore ruling head image bodies parts }
+{}
+
+/// Of two readers that began at one place, one has come on from where the other stands. So where nothing more is to be
+/// come to, at a closed gate or at damage, there is one list of bodies that a reader came to.
+pub fn readers_agree()
+    ensures { (half : List ℕ) (place : ℕ) (first second : List (List ℕ)) (end stop : ℕ) → Comes half place first end → Comes half place second stop
+        → GoesOn half first second end stop ⊎ GoesOn half second first stop end }
+{}
+
+/// What was read stays so while the disk stays as it was, and so does what stands.
+pub fn a_store_stays<D: Disk>()
+    // nothing was read, as by a call that failed
+    ensures reading { (head : Head) (image : List ℕ) (bodies : List (List ℕ)) (parts : Parts) (before after : Journal) → ReadUpTo head image bodies parts before → ReadsOn before after
+        → Sees (part_of before.ruling parts) after → after.end ≡ before.end → ReadUpTo head image bodies parts after }
+    // all is read, and a crash leaves what is read
+    ensures read { (head : Head) (image : List ℕ) (bodies : List (List ℕ)) (parts : Parts) (journal : Journal) (disk : D) → D.reads disk ≡ Some parts → Stable D.reads D.disk_clock D.images disk
+        → StandsAt head image bodies parts journal → Stands D.reads D.disk_clock D.images head image bodies journal disk }
+    // each image holds the store, and none is another
+    ensures now { (head : Head) (image : List ℕ) (bodies : List (List ℕ)) (journal : Journal) (disk : D) → Stands D.reads D.disk_clock D.images head image bodies journal disk
+        → EachNow D.disk_clock D.images (HoldsStore journal.ruling head image bodies) disk }
+    // calls of other devices were made
+    ensures kept { (head : Head) (image : List ℕ) (bodies : List (List ℕ)) (journal : Journal) (old new : D) → KeepsDisk D.reads D.disk_clock D.images D.disk_faults old new
+        → Stands D.reads D.disk_clock D.images head image bodies journal old → Stands D.reads D.disk_clock D.images head image bodies journal new }
+    // a change to the other half was given up, and the disk synced
+    ensures given_up { (head next : Head) (image front : List ℕ) (bodies : List (List ℕ)) (journal : Journal) (disk synced : D) → Changing D.reads D.disk_clock D.images head image bodies next front journal disk
+        → D.reads synced ≡ D.reads disk → Stable D.reads D.disk_clock D.images synced → Stands D.reads D.disk_clock D.images head image bodies journal synced }
 {}

@@ -20,6 +20,7 @@ use fsrm_outside::Disk;
 impl Journal {
     ghost use Rattle.fsrm_journal.specs.Halves.{Certain, Filling, IsNext, Knows, Stays, StaysOrFresh, Switched};
     ghost use Rattle.fsrm_journal.specs.Opened.{HoldsOn, StandsOn};
+    ghost use Rattle.fsrm_journal.specs.Stores.{Changing, HoldsOldOrNew, HoldsStore, Stands};
 
     /// The generation that the next half has.
     pub fn next_generation(&self) -> u64
@@ -40,6 +41,10 @@ impl Journal {
             → EachImage D.disk_clock D.images (Stays self.old.ruling (part_of self.old.ruling parts)) disk.old disk.new }
         ensures begun { (parts : Parts) → Certain D.reads D.disk_clock D.images parts disk.old → Knows parts self.old
             → OnOk result (Filling D.reads D.disk_clock D.images (part_of self.old.ruling parts) head.now [] self.new disk.new) }
+        ensures store { (was : Head) (image : List ℕ) (bodies : List (List ℕ)) → Stands D.reads D.disk_clock D.images was image bodies self.old disk.old
+            → OnOk result (Changing D.reads D.disk_clock D.images was image bodies head.now [] self.new disk.new) }
+        ensures leaves { (was : Head) (image : List ℕ) (bodies : List (List ℕ)) → Stands D.reads D.disk_clock D.images was image bodies self.old disk.old
+            → EachImage D.disk_clock D.images (HoldsStore self.old.ruling was image bodies) disk.old disk.new }
         ensures gate { self.old.beside_open ≡ true → OnOk result (ForSome (D.reads disk.new) (λ parts. slice_index (part_of (other self.new.ruling) parts) 0 ≡ 0)) }
         ensures held { HoldsOn self.old self.new }
         ensures ruling { self.new.ruling ≡ self.old.ruling }
@@ -67,6 +72,10 @@ impl Journal {
             → EachImage D.disk_clock D.images (Stays self.old.ruling half) disk.old disk.new }
         ensures put { (half front : List ℕ) (head : Head) → Filling D.reads D.disk_clock D.images half head front self.old disk.old
             → OnOk result (Filling D.reads D.disk_clock D.images half head (front ++ piece.now) self.new disk.new) }
+        ensures store { (was head : Head) (image front : List ℕ) (bodies : List (List ℕ)) → Changing D.reads D.disk_clock D.images was image bodies head front self.old disk.old
+            → OnOk result (Changing D.reads D.disk_clock D.images was image bodies head (front ++ piece.now) self.new disk.new) }
+        ensures leaves { (was head : Head) (image front : List ℕ) (bodies : List (List ℕ)) → Changing D.reads D.disk_clock D.images was image bodies head front self.old disk.old
+            → EachImage D.disk_clock D.images (HoldsStore self.old.ruling was image bodies) disk.old disk.new }
         ensures held { HoldsOn self.old self.new }
         ensures ruling { self.new.ruling ≡ self.old.ruling }
         ensures stands { StandsOn self.old self.new }
@@ -92,6 +101,10 @@ impl Journal {
             → EachImage D.disk_clock D.images (StaysOrFresh self.old.ruling half head image) disk.old disk.new }
         ensures switched { (half image : List ℕ) (head : Head) → head.image ≡ length image → Filling D.reads D.disk_clock D.images half head image self.old disk.old
             → OnOk result (Switched D.reads D.disk_clock D.images half head image self.new disk.new) }
+        ensures store { (was head : Head) (image new : List ℕ) (bodies : List (List ℕ)) → head.image ≡ length new → Changing D.reads D.disk_clock D.images was image bodies head new self.old disk.old
+            → OnOk result (Stands D.reads D.disk_clock D.images head new [] self.new disk.new) }
+        ensures leaves { (was head : Head) (image new : List ℕ) (bodies : List (List ℕ)) → head.image ≡ length new → Changing D.reads D.disk_clock D.images was image bodies head new self.old disk.old
+            → EachImage D.disk_clock D.images (HoldsOldOrNew self.old.ruling was image bodies head new) disk.old disk.new }
         ensures held { HoldsOn self.old self.new }
         ensures ruling { OnOk result (self.new.ruling ≡ other self.old.ruling) }
         ensures none { OnOk result (self.new.image_end ≡ self.new.end) }

@@ -1,6 +1,6 @@
 //! A new store.
 
-ghost use Rattle.std.specs.Prelude.{◌≡◌, ◌⊎◌, ◌≤◌, length, true, Err, IsErrOf, OnOk, OnErr};
+ghost use Rattle.std.specs.Prelude.{◌≡◌, ◌⊎◌, ◌≤◌, [], length, true, Err, IsErrOf, OnOk, OnErr};
 ghost use Rattle.std.specs.Option.{ForSome};
 ghost use Rattle.fsrm_outside.specs.Causes.{Rose};
 ghost use Rattle.fsrm_outside.specs.Changes.{Same, Through};
@@ -17,6 +17,8 @@ use fsrm_outside::{Disk, Part};
 impl Journal {
     ghost use Rattle.fsrm_journal.specs.Formatted.{has_store, Formats, IsFormatted, IsMade};
     ghost use Rattle.fsrm_journal.specs.Halves.{Certain};
+    ghost use Rattle.fsrm_journal.specs.Stores.{HoldsStore};
+    ghost use Rattle.fsrm_outside.specs.declared.traits.Part.TheVariants.{Zero};
 
     /// Makes a store that holds this image and no record, in part 0. Of part 1 only the gate is written, so an empty
     /// one is then one byte 0. `AlreadyStore` exactly if a gate is open; then nothing is ever written, also if a call
@@ -28,6 +30,7 @@ impl Journal {
         ensures tells { ForSome (D.reads disk.old) (λ parts. IsFormatted parts result) }
         ensures only { OnErr result ((result ≡ Err DiskFault) ⊎ (result ≡ Err AlreadyStore)) }
         ensures formatted { ForSome (D.reads disk.old) (λ parts. OnOk result ((now : Parts) × Certain D.reads D.disk_clock D.images now disk.new × IsMade head.now image.now parts now)) }
+        ensures store { ForSome (D.reads disk.old) (λ parts. OnOk result ((now : Parts) × Certain D.reads D.disk_clock D.images now disk.new × HoldsStore Zero head.now image.now [] now)) }
         ensures any_moment { ForSome (D.reads disk.old) (λ parts. Formats D.disk_clock D.images head.now image.now disk.old disk.new) }
         ensures kept { ForSome (D.reads disk.old) (λ parts. has_store parts ≡ true → D.reads disk.new ≡ D.reads disk.old) }
         ensures quiet { ForSome (D.reads disk.old) (λ parts. has_store parts ≡ true → Through D.disk_clock D.images Same disk.old disk.new) }

@@ -1,6 +1,6 @@
 use Rattle.std.proofs.Common.{take, ap, ◌∙◌, ℕ}
 use Rattle.std.proofs.lemmas.Result.{err_from_is_err_and}
-use Rattle.fsrm_journal.proofs.Quiet.{still_stable, settles_never, settles_from}
+use Rattle.fsrm_outside.proofs.Settling.{still_stable, settles_never, settles_from}
 use Rattle.fsrm_outside.proofs.Stages.{DiskLaws, quiet_then}
 use Rattle.fsrm_journal.proofs.journal.read_heads.Goals as goal
 

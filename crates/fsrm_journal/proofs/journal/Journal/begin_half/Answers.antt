@@ -2,6 +2,8 @@ use Rattle.std.proofs.Common.{◌≡◌, List, ℕ, [], ◌++◌, length, take, 
 use Rattle.fsrm_outside.specs.Parts.{part_of}
 use Rattle.fsrm_outside.proofs.Stages.{DiskLaws, joined, weaker}
 use Rattle.fsrm_journal.specs.Halves.{IsNext, head_tail, Beside, Stays}
+use Rattle.fsrm_journal.specs.Stores.{HoldsStore}
+use Rattle.fsrm_journal.proofs.Stores.{begun, stays_store}
 use Rattle.fsrm_journal.proofs.Turns.{rules_wins, shut_stays}
 use Rattle.fsrm_journal.proofs.journal.Journal.begin_half.Goals as goal
 
@@ -59,3 +61,18 @@ returns-clause-here g c n long = c.in_ok-write_beside.ensures.here n (c.in_ok-cl
 
 pub returns-clause-gate : goal.returns-clause-gate
 returns-clause-gate g c opened = c.in_ok-write_beside.ensures.gate 0 (omega arith) (c.in_ok-close_beside.ensures.gate opened)
+
+pub returns-in_err-close_beside-clause-leaves : goal.returns-in_err-close_beside-clause-leaves
+returns-in_err-close_beside-clause-leaves g c was image bodies s =
+    weaker (HoldsStore c.args.self.now.ruling was image bodies) (λ i stays. stays_store c.args.self.now.ruling was image bodies s.parts i s.at.store stays) (returns-in_err-close_beside-clause-any_moment g c s.parts s.certain s.at.knows)
+
+pub returns-in_err-write_beside-clause-leaves : goal.returns-in_err-write_beside-clause-leaves
+returns-in_err-write_beside-clause-leaves g c was image bodies s =
+    weaker (HoldsStore c.args.self.now.ruling was image bodies) (λ i stays. stays_store c.args.self.now.ruling was image bodies s.parts i s.at.store stays) (returns-in_err-write_beside-clause-any_moment g c s.parts s.certain s.at.knows)
+
+pub returns-clause-leaves : goal.returns-clause-leaves
+returns-clause-leaves g c was image bodies s =
+    weaker (HoldsStore c.args.self.now.ruling was image bodies) (λ i stays. stays_store c.args.self.now.ruling was image bodies s.parts i s.at.store stays) (returns-clause-any_moment g c s.parts s.certain s.at.knows)
+
+pub returns-clause-store : goal.returns-clause-store
+returns-clause-store g c was image bodies s = begun c.args.head.now _ _ s refl refl refl (returns-clause-begun g c s.parts s.certain s.at.knows)

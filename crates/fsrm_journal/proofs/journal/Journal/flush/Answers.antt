@@ -1,8 +1,13 @@
-use Rattle.std.proofs.Common.{◌≡◌, ℕ, ◌+◌, inl, List, [], ◌∷◌, ◌++◌, length, length-append, sym, ap, subst, ◌∙◌, arith}
+use Rattle.std.proofs.Common.{rules, ◌≡◌, ℕ, ◌+◌, inl, List, [], ◌∷◌, ◌++◌, length, length-append, refl, sym, ap, subst, ◌∙◌, arith}
+use Rattle.std.proofs.lemmas.List.{append-nil}
+use Rattle.std.proofs.lemmas.List.Elements.{All-nil}
 use Rattle.fsrm_outside.specs.Moments.{EachImage}
-use Rattle.fsrm_outside.proofs.Stages.{DiskLaws, joined, weaker}
+use Rattle.fsrm_outside.proofs.Stages.{DiskLaws, joined, started, weaker}
 use Rattle.fsrm_journal.specs.Records.{batch, HoldsAllOrNone, Settled}
-use Rattle.fsrm_journal.proofs.Staging.{some_held}
+use Rattle.fsrm_journal.specs.Reading.{IsBody, log_at}
+use Rattle.fsrm_journal.specs.Stores.{HoldsWithOrWithout, Stands}
+use Rattle.fsrm_journal.proofs.Staging.{none_there, some_held}
+use Rattle.fsrm_journal.proofs.Stores.{none_here, settled_of, stands_added, with_or_without, without}
 use Rattle.fsrm_journal.proofs.journal.Journal.flush.Goals as goal
 
 pub returns-in_err-next-clause-any_moment : goal.returns-in_err-next-clause-any_moment
@@ -53,3 +58,42 @@ returns-clause-gate g c some =
     let closed = c.deref.ensures.value ∙ c.close_last.ensures.bytes in
     let next = c.in_ok-next.ensures.next.0 in
     c.in_ok-open_gate.ensures.after c.in_ok-next.next 0 (omega (arith, next, ap length closed, length-append c.args.self.now.bytes.items (0 ∷ []))) (c.in_ok-next.ensures.gate c.args.self.now.bytes.items closed)
+
+pub returns-then-self-eq0-clause-leaves : goal.returns-then-self-eq0-clause-leaves
+returns-then-self-eq0-clause-leaves g c head image bodies held s h = started (record { now = without held s })
+
+pub returns-in_err-next-clause-leaves : goal.returns-in_err-next-clause-leaves
+returns-in_err-next-clause-leaves g c head image bodies held s h =
+    weaker (HoldsWithOrWithout c.args.self.now.ruling head image bodies held) (with_or_without held s h.legal) (returns-in_err-next-clause-any_moment g c (log_at c.args.self.now.ruling c.args.self.now.end s.parts) [] held h.count h.bytes (settled_of s))
+
+pub returns-in_err-open_gate-clause-leaves : goal.returns-in_err-open_gate-clause-leaves
+returns-in_err-open_gate-clause-leaves g c head image bodies held s h =
+    weaker (HoldsWithOrWithout c.args.self.now.ruling head image bodies held) (with_or_without held s h.legal) (returns-in_err-open_gate-clause-any_moment g c (log_at c.args.self.now.ruling c.args.self.now.end s.parts) [] held h.count h.bytes (settled_of s))
+
+pub returns-clause-leaves : goal.returns-clause-leaves
+returns-clause-leaves g c head image bodies held s h =
+    weaker (HoldsWithOrWithout c.args.self.now.ruling head image bodies held) (with_or_without held s h.legal) (returns-clause-any_moment g c (log_at c.args.self.now.ruling c.args.self.now.end s.parts) [] held h.count h.bytes (settled_of s))
+
+pub returns-then-self-eq0-clause-store : goal.returns-then-self-eq0-clause-store
+returns-then-self-eq0-clause-store g c head image bodies held s h =
+    let D = g.D.Disk in
+    subst (λ (l : List (List ℕ)). Stands D.reads D.disk_clock D.images head image l c.args.self.now c.args.disk.now) (sym (append-nil bodies) ∙ ap (λ (l : List (List ℕ)). bodies ++ l) (sym (none_here held (omega (arith, h.count, c.if-self-eq0.true))))) s
+
+pub returns-clause-store : goal.returns-clause-store
+returns-clause-store g c head image bodies held s h =
+    stands_added held _ _ s h.legal (record { ruling = refl; generation = refl; beside = refl }) refl (returns-clause-added g c (log_at c.args.self.now.ruling c.args.self.now.end s.parts) [] held h.count h.bytes (settled_of s))
+
+pub returns-then-self-eq0-clause-holding : goal.returns-then-self-eq0-clause-holding
+returns-then-self-eq0-clause-holding g c =
+    let old = c.args.self.now in
+    record { count = omega (arith, c.if-self-eq0.true); bytes = none_there old.bytes.items (omega (arith, old.fits, c.if-self-eq0.true)); legal = All-nil IsBody }
+
+pub returns-clause-holding : goal.returns-clause-holding
+returns-clause-holding g c =
+    let none : c.clear.new.self.items ≡ [] = search rules in
+    record { count = refl; bytes = none; legal = All-nil IsBody }
+
+pub returns-clause-end : goal.returns-clause-end
+returns-clause-end g c some =
+    let closed = c.deref.ensures.value ∙ c.close_last.ensures.bytes in
+    omega (arith, c.in_ok-next.ensures.next.0, ap length closed, length-append c.args.self.now.bytes.items (0 ∷ []))

@@ -1,5 +1,7 @@
 use Rattle.std.proofs.Common.{◌∙◌, ◌∷◌, drop}
 use Rattle.fsrm_outside.proofs.Stages.{DiskLaws}
+use Rattle.fsrm_outside.specs.declared.traits.Part.TheVariants.{Zero}
+use Rattle.fsrm_journal.proofs.Stores.{fresh_store}
 use Rattle.fsrm_journal.proofs.NewStore.{made, formats_never, formats_before, formats_then}
 use Rattle.fsrm_journal.proofs.journal.Journal.format.Goals as goal
 
@@ -38,3 +40,8 @@ returns-clause-formatted g c parts told =
     let b = c.in_ok-close_both.ensures.closed parts (c.has_store.ensures.reads ∙ told) in
     let n = c.in_ok-write_half.ensures.opened (0 ∷ drop 1 parts.one) b in
     (n.0, n.1, made head image n.2.rest parts n.0 c.requires.legal c.requires.length n.2.split n.2.same)
+
+pub returns-clause-store : goal.returns-clause-store
+returns-clause-store g c parts told =
+    let made = returns-clause-formatted g c parts told in
+    (made.0, made.1, fresh_store Zero c.args.head.now c.args.image.now made.0 made.2.fresh)

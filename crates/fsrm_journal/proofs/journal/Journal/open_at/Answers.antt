@@ -1,9 +1,13 @@
-use Rattle.std.proofs.Common.{Err, length, refl, ap, ◌∙◌, arith}
+use Rattle.std.proofs.Common.{rules, ◌≡◌, [], Err, length, refl, ap, ◌∙◌, arith}
 use Rattle.fsrm_outside.specs.Parts.{part_of, other}
 use Rattle.fsrm_journal.proofs.Turns.{rules_wins, has_gate}
+use Rattle.std.proofs.lemmas.List.Elements.{All-nil}
 use Rattle.std.proofs.lemmas.Result.{err_from_is_err_and}
+use Rattle.fsrm_journal.specs.Reading.{IsBody}
+use Rattle.fsrm_journal.proofs.Readings.{read_head}
 use Rattle.fsrm_outside.proofs.Stages.{DiskLaws, quiet_then}
-use Rattle.fsrm_journal.proofs.Quiet.{beside_read, still_stable, settles_then, settles_as, judged_read, refused_read, says_read}
+use Rattle.fsrm_outside.proofs.Settling.{still_stable, settles_then, settles_as}
+use Rattle.fsrm_journal.proofs.Quiet.{beside_read, judged_read, refused_read, says_read}
 use Rattle.fsrm_journal.proofs.journal.Journal.open_at.Goals as goal
 
 pub returns-in_err-len-clause-crash : goal.returns-in_err-len-clause-crash
@@ -88,3 +92,13 @@ returns-clause-any_moment g c =
     let M = g.met.D.Disk in
     let laws : DiskLaws g.D.Disk.disk_clock g.D.Disk.images g.D.Disk.by_disk = record { same = M.disk_same; then_by = M.disk_then; later = M.disk_later; past = M.disk_past } in
     settles_then laws _ _ _ c.read_heads.ensures.by c.len.ensures.by c.len.ensures.crash c.len.ensures.reads (λ err. absurd (cc (err.1))) c.in_ok-zero_len.ensures.any_moment
+
+pub returns-clause-reading : goal.returns-clause-reading
+returns-clause-reading g c parts told =
+    let o = returns-clause-opened g c parts told in
+    read_head parts _ _ o (record { long = o.long })
+
+pub returns-clause-holding : goal.returns-clause-holding
+returns-clause-holding g c =
+    let none : c.in-Ok.bytes.items ≡ [] = search rules in
+    record { count = refl; bytes = none; legal = All-nil IsBody }

@@ -5,6 +5,8 @@ use Rattle.fsrm_outside.proofs.Stages.{DiskLaws, joined, weaker}
 use Rattle.fsrm_journal.specs.Halves.{head_tail, StaysOrFresh}
 use Rattle.fsrm_journal.proofs.HeadBytes.{place_after}
 use Rattle.fsrm_journal.proofs.Switched.{switched_now}
+use Rattle.fsrm_journal.specs.Stores.{HoldsOldOrNew}
+use Rattle.fsrm_journal.proofs.Stores.{old_or_new, stands_switched}
 use Rattle.fsrm_journal.proofs.Turns.{either_rules, back, shut_or_open, shut_stays}
 use Rattle.fsrm_journal.proofs.Untils.{until_each}
 use Rattle.fsrm_journal.proofs.journal.Journal.switch.Goals as goal
@@ -70,3 +72,26 @@ pub returns-clause-beside : goal.returns-clause-beside
 returns-clause-beside g c n long x told =
     let kept = c.in_ok-still_open.ensures.here n (c.in_ok-open_beside.ensures.here n (c.in_ok-write_beside.ensures.here n long)) x told in
     omega (arith, kept, ap length (back c.args.self.now.ruling x), ap (λ (r : Part). length (part_of (other r) x)) c.other-self.ensures)
+
+pub returns-in_err-write_beside-clause-leaves : goal.returns-in_err-write_beside-clause-leaves
+returns-in_err-write_beside-clause-leaves g c was head image new bodies whole s =
+    let r = c.args.self.now.ruling in
+    weaker (HoldsOldOrNew r was image bodies head new) (λ i left. old_or_new r was head image new bodies s.was s.store i left) (returns-in_err-write_beside-clause-any_moment g c (part_of r s.was) new head whole s.filling)
+
+pub returns-in_err-open_beside-clause-leaves : goal.returns-in_err-open_beside-clause-leaves
+returns-in_err-open_beside-clause-leaves g c was head image new bodies whole s =
+    let r = c.args.self.now.ruling in
+    weaker (HoldsOldOrNew r was image bodies head new) (λ i left. old_or_new r was head image new bodies s.was s.store i left) (returns-in_err-open_beside-clause-any_moment g c (part_of r s.was) new head whole s.filling)
+
+pub returns-in_err-still_open-clause-leaves : goal.returns-in_err-still_open-clause-leaves
+returns-in_err-still_open-clause-leaves g c was head image new bodies whole s =
+    let r = c.args.self.now.ruling in
+    weaker (HoldsOldOrNew r was image bodies head new) (λ i left. old_or_new r was head image new bodies s.was s.store i left) (returns-in_err-still_open-clause-any_moment g c (part_of r s.was) new head whole s.filling)
+
+pub returns-clause-leaves : goal.returns-clause-leaves
+returns-clause-leaves g c was head image new bodies whole s =
+    let r = c.args.self.now.ruling in
+    weaker (HoldsOldOrNew r was image bodies head new) (λ i left. old_or_new r was head image new bodies s.was s.store i left) (returns-clause-any_moment g c (part_of r s.was) new head whole s.filling)
+
+pub returns-clause-store : goal.returns-clause-store
+returns-clause-store g c was head image new bodies whole s = stands_switched head new _ _ (returns-clause-switched g c (part_of c.args.self.now.ruling s.was) new head whole s.filling) refl
