@@ -22,6 +22,7 @@ pub mod NoticeWriting
 pub mod PathText
 pub mod QuotaLaws
 pub mod QuotaWriting
+pub mod RecordBodies
 pub mod ScreenLaws
 pub mod ScreenWriting
 pub mod SettingLaws

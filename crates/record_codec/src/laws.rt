@@ -13,6 +13,8 @@ ghost use Rattle.record_codec.specs.Deeds.{deed_kind, deed_code};
 ghost use Rattle.record_codec.specs.Entries.{entry as entry_format};
 ghost use Rattle.record_codec.specs.Writing.{IsWritable, IsSpelled, entry_typed};
 
+pub mod record_bodies;
+
 /// The format of entries is exact, and places damage.
 pub fn entries()
     ensures { Places entry_format }
