@@ -1,6 +1,7 @@
 pub mod ChoiceLaws
 pub mod ImageInLaws
 pub mod ImageReads
+pub mod KeptImages
 pub mod LeftLaws
 pub mod LegalLaws
 pub mod LengthLaws

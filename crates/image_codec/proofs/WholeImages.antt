@@ -30,13 +30,13 @@ ended true true n r S is e = (refl, ap (λ (R : Rows). (R, r.1)) (ok_same {E = �
 ended true false n r S is e = absurd (cc e)
 ended false w n r S is e = absurd (cc e)
 
-judged : (is_all : Bool) (size : ℕ) (read : Read Rows) (R : Rows) → of_length is_all size read ≡ Ok R → (is_all ≡ true) × (read ≡ Ok (R, []))
-judged is_all size (Ok r) R e = let h = ended is_all (length r.1 == 0) size r R refl e in (h.0, ap (λ (x : Rows × List ℕ). Ok x) h.1)
-judged is_all size (Err flaw) R e = absurd (cc e)
+pub image_read : (is_all : Bool) (size : ℕ) (read : Read Rows) (R : Rows) → of_length is_all size read ≡ Ok R → (is_all ≡ true) × (read ≡ Ok (R, []))
+image_read is_all size (Ok r) R e = let h = ended is_all (length r.1 == 0) size r R refl e in (h.0, ap (λ (x : Rows × List ℕ). Ok x) h.1)
+image_read is_all size (Err flaw) R e = absurd (cc e)
 
 pub image_takes : (len : ℕ) (bytes : List ℕ) (R : Rows) → AreBytes bytes → image_in len bytes ≡ Ok R → (image.legal R ≡ true) × (bytes ≡ image.spell R) × (length bytes ≡ len)
 image_takes len bytes R are e =
-    let j = judged (length bytes == len) (length (take len bytes)) (image.read (take len bytes)) R e in
+    let j = image_read (length bytes == len) (length (take len bytes)) (image.read (take len bytes)) R e in
     let size : length bytes ≡ len = eqb-true (length bytes) len j.0 in
     let own : take len bytes ≡ bytes = take_all len bytes (omega (arith, size)) in
     let t = image_places.exact.takes bytes R [] are (ap image.read (sym own) ∙ j.1) in

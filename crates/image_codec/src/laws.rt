@@ -13,6 +13,8 @@ ghost use Rattle.image_codec.specs.NewImage.{new_image};
 ghost use Rattle.image_codec.specs.Pieces.{pieces, piece_legal, piece_meets, piece_spelled};
 ghost use Rattle.image_codec.specs.PiecesLeft.{piece_fits};
 
+pub mod kept_images;
+
 /// An image has one spelling, which is read again as these rows, whatever follows, and no other bytes spell it. Damage
 /// is told at its place: up to there the bytes are whole fields of an image, and with no image do they agree in whole
 /// fields any further.
