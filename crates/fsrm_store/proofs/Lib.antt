@@ -1,0 +1,5 @@
+pub mod KeepsLaws
+pub mod NoStates
+pub mod RecordWalks
+pub mod StateLaws
+pub mod TailLaws

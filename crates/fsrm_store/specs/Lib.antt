@@ -1,0 +1,4 @@
+pub mod HoldsStore
+pub mod Keeps
+pub mod States
+pub mod WorkedStates

@@ -1,0 +1,105 @@
+//! What is proved of the bytes of a store.
+
+ghost use Rattle.std.specs.Prelude.{◌≡◌, ◌⊎◌, ◌↔◌, ◌≤◌, ℕ, List, [], ◌++◌, true, false, Ok, length};
+ghost use Rattle.std.specs.List.{list_all};
+ghost use Rattle.fsrm_model.specs.commands.Step.{step};
+ghost use Rattle.fsrm_model.specs.declared.command.Command.{Command};
+ghost use Rattle.fsrm_model.specs.declared.row.Capacity.{Capacity};
+ghost use Rattle.fsrm_model.specs.declared.row.Rows.{Rows};
+ghost use Rattle.fsrm_model.specs.nodes.Fresh.{new_rows};
+ghost use Rattle.fsrm_model.specs.store.Lasting.{lasting};
+ghost use Rattle.fsrm_model.specs.store.OldReplays.{old_replayed};
+ghost use Rattle.fsrm_model.specs.store.Replays.{journal_entry, command_entries, is_valid_entry};
+ghost use Rattle.fsrm_model.specs.store.Valid.{IsValid};
+ghost use Rattle.fsrm_model.specs.store.Valued.{is_command};
+ghost use Rattle.fsrm_outside.specs.Parts.{Parts, part_of};
+ghost use Rattle.fsrm_outside.specs.declared.traits.Part.{Part};
+ghost use Rattle.fsrm_journal.specs.Formatted.{has_store};
+ghost use Rattle.fsrm_journal.specs.Records.{records};
+ghost use Rattle.fsrm_journal.specs.declared.heads.Head.{Head};
+ghost use Rattle.record_fields.specs.Laws.{AreBytes};
+ghost use Rattle.record_codec.specs.Writing.{IsWritable};
+ghost use Rattle.image_codec.specs.Images.{image_in};
+ghost use Rattle.image_codec.specs.NewImage.{new_image};
+ghost use Rattle.fsrm_store.specs.HoldsStore.{HoldsStore, HoldsWithOrWithout, HoldsOldOrNew};
+ghost use Rattle.fsrm_store.specs.Keeps.{Spell, HoldsState, HoldsOldState, Keeps, HasTail};
+ghost use Rattle.fsrm_store.specs.States.{state_of};
+ghost use Rattle.fsrm_store.specs.States.State.{NoState, Holds};
+ghost use Rattle.fsrm_store.specs.WorkedStates.{no_bytes, closed_gates, new_store, no_part, newer_half, equal_halves, wrong_version, cut_image, short_image, short_part, wrong_rows, one_record, refused_record, closed_record, no_gate, no_length, length_zero, no_body, no_next_gate, wrong_kind, wrong_owner, long_body};
+
+/// What the bytes of a store hold.
+pub fn states()
+    // They have a state with rows exactly if a reader comes to these rows. So it is one.
+    ensures state { (K : Capacity) (R : Rows) (parts : Parts) → (state_of parts ≡ Holds K R) ↔ HoldsState K R parts }
+    ensures one { (K L : Capacity) (R Q : Rows) (parts : Parts) → HoldsState K R parts → HoldsState L Q parts → (K ≡ L) × (R ≡ Q) }
+    // There is none exactly where no gate is open.
+    ensures none { (parts : Parts) → (state_of parts ≡ NoState) ↔ (has_store parts ≡ false) }
+    // Entries that are read of bytes are valid.
+    ensures valid { (K : Capacity) (R : Rows) (parts : Parts) (h : HoldsState K R parts) → AreBytes (part_of h.ruling parts) → list_all is_valid_entry h.entries ≡ true }
+    // Entries that a store of version 1 was given come to the rows that the machine of that time made of them.
+    ensures old { (K : Capacity) (R : Rows) (parts : Parts) (h : HoldsOldState K R parts) → lasting (old_replayed K h.state.base h.state.entries) ≡ R }
+{}
+
+/// What the bytes of a store keep of its rows while they are written.
+pub fn calls()
+    // What is held is written: before that, or after it. So what a crash leaves is what was kept, or what is kept of the
+    // rows now.
+    ensures crash { (ruling : Part) (kept : Rows) (head : Head) (image : List ℕ) (bodies held : List (List ℕ)) (R : Rows) (parts : Parts)
+        → Keeps kept head image bodies held R → HoldsWithOrWithout ruling head image bodies held parts
+        → HoldsState head.size kept parts ⊎ HoldsState head.size (lasting R) parts }
+    // If no record is held these are the same. Then a change to another half leaves this alone, too.
+    ensures settled { (kept : Rows) (head : Head) (image : List ℕ) (bodies : List (List ℕ)) (R : Rows) → Keeps kept head image bodies [] R → kept ≡ lasting R }
+    ensures change { (ruling : Part) (kept : Rows) (head next : Head) (image new : List ℕ) (bodies : List (List ℕ)) (R : Rows) (parts : Parts)
+        → Keeps kept head image bodies [] R → Keeps (lasting R) next new [] [] R → next.size ≡ head.size → HoldsOldOrNew ruling head image bodies next new parts
+        → HoldsState head.size (lasting R) parts }
+    // A store that is opened has the rows of its state.
+    ensures opened { (K : Capacity) (R : Rows) (parts : Parts) (h : HoldsState K R parts) → list_all is_valid_entry h.entries ≡ true → Keeps R h.head h.image h.bodies [] R }
+    // A command that lasts has an entry that may be written. A command's entries are held.
+    ensures writable { (K : Capacity) (R : Rows) (c : Command) → IsValid K R → is_command c ≡ true → (step K R c).lasting ≡ true → IsWritable (journal_entry R c) }
+    ensures command { (kept : Rows) (head : Head) (image : List ℕ) (bodies held more : List (List ℕ)) (R : Rows) (c : Command)
+        → Keeps kept head image bodies held R → is_command c ≡ true → Spell more (command_entries head.size R c)
+        → Keeps kept head image bodies (held ++ more) (step head.size R c).rows }
+    // A flush writes what is held.
+    ensures flush { (kept : Rows) (head : Head) (image : List ℕ) (bodies held : List (List ℕ)) (R : Rows)
+        → Keeps kept head image bodies held R → Keeps (lasting R) head image (bodies ++ held) [] R }
+    // A checkpoint's image is read as what is kept of the rows. So is that of a new store.
+    ensures checkpoint { (head : Head) (image : List ℕ) (R : Rows) → IsValid head.size R → image_in (length image) image ≡ Ok (lasting R)
+        → Keeps (lasting R) head image [] [] R }
+    ensures new { (head : Head) → 1 ≤ head.size.nodes → Keeps new_rows head new_image [] [] new_rows }
+{}
+
+/// How many bytes the records of a store have. It is one number, that of its bodies' records.
+pub fn tails()
+    ensures tail { (ruling : Part) (head : Head) (image : List ℕ) (bodies : List (List ℕ)) (parts : Parts) → HoldsStore ruling head image bodies parts → HasTail (length (records bodies)) parts }
+    ensures one { (tail other : ℕ) (parts : Parts) → HasTail tail parts → HasTail other parts → tail ≡ other }
+{}
+
+/// Bytes that hold no store, and some that hold rows.
+pub fn worked_states()
+    ensures no_bytes { no_bytes }
+    ensures closed_gates { closed_gates }
+    ensures new_store { new_store }
+    ensures newer_half { newer_half }
+    ensures one_record { one_record }
+    ensures refused_record { refused_record }
+    ensures closed_record { closed_record }
+{}
+
+/// Bytes with a damage, each at its place.
+pub fn worked_damage()
+    ensures no_part { no_part }
+    ensures equal_halves { equal_halves }
+    ensures wrong_version { wrong_version }
+    ensures cut_image { cut_image }
+    ensures short_image { short_image }
+    ensures short_part { short_part }
+    ensures wrong_rows { wrong_rows }
+    ensures no_gate { no_gate }
+    ensures no_length { no_length }
+    ensures length_zero { length_zero }
+    ensures no_body { no_body }
+    ensures no_next_gate { no_next_gate }
+    ensures wrong_kind { wrong_kind }
+    ensures wrong_owner { wrong_owner }
+    ensures long_body { long_body }
+{}
