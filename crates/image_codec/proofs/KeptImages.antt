@@ -1,5 +1,5 @@
 -- What an image is read as is kept as it is.
-use Rattle.std.proofs.Common.{◌≡◌, ℕ, zero, suc, true, List, [], ◌∷◌, length, take, Option, Some, None, Ok, Err, refl, sym, ap, subst, ◌∙◌}
+use Rattle.std.proofs.Common.{◌≡◌, ℕ, zero, suc, true, List, [], ◌∷◌, length, take, Option, Some, None, Ok, refl, sym, ap, subst, ◌∙◌}
 use Rattle.std.specs.Prelude.{◌==◌, map, nat_eq}
 use Rattle.std.specs.List.{flat_map, list_all}
 use Rattle.std.proofs.lemmas.Bool.{eqb-true}
@@ -8,7 +8,7 @@ use Rattle.fsrm_model.specs.declared.row.QuotaState.{QuotaState}
 use Rattle.fsrm_model.specs.declared.row.QuotaState.TheVariants.{Complete, Disabled, Incomplete}
 use Rattle.fsrm_model.specs.declared.row.Rows.{Rows}
 use Rattle.fsrm_model.specs.store.Lasting.{flagged, flagged_quota, lasting}
-use Rattle.record_fields.specs.Formats.{◌>>=◌, Format, judged as judged_value, known_at, items_at, listed_at, number, text, truth, optional, ◌⊗◌}
+use Rattle.record_fields.specs.Formats.{◌>>=◌, Format, judged as judged_value, known_at, items_at, listed_at, number, truth, optional, ◌⊗◌}
 use Rattle.record_fields.proofs.ReadLaws.{bind_ok, ok_is}
 use Rattle.record_codec.proofs.KindLaws.{chosen}
 use Rattle.image_codec.specs.Choices.{state, state_of}

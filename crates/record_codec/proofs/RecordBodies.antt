@@ -1,5 +1,5 @@
 -- Entries as the bodies of a journal's records.
-use Rattle.std.proofs.Common.{◌≡◌, ℕ, ◌+◌, ◌≤◌, true, List, length, Ok, subst, length-append, arith}
+use Rattle.std.proofs.Common.{◌≡◌, ℕ, ◌≤◌, true, List, length, Ok, subst, length-append, arith}
 use Rattle.fsrm_model.specs.declared.command.Entry.{Entry}
 use Rattle.fsrm_model.specs.declared.command.Entry.TheVariants.{Order, Finish}
 use Rattle.fsrm_model.specs.store.Replays.{is_valid_entry}
