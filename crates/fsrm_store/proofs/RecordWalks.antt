@@ -1,11 +1,11 @@
 -- The entries that records spell are those of the bodies that a reader comes to.
 use Rattle.std.proofs.Common.{◌≡◌, ℕ, zero, suc, ◌+◌, ◌≤◌, ◌<◌, Bool, true, false, cond, not, arith, length-take, length-drop, List, [], ◌∷◌, length, take, drop, refl, sym, ◌∙◌, ap, subst}
 use Rattle.std.specs.Prelude.{Option, None, Some, Result, Ok, Err, nat_lt, nat_eq, slice_index}
-use Rattle.std.proofs.lemmas.Bool.{ltb-true}
+use Rattle.std.proofs.lemmas.Bool.{ltb-true, le-ltb}
 use Rattle.fsrm_model.specs.declared.command.Entry.{Entry}
 use Rattle.fsrm_journal.specs.Next.{length_at, has_length, with_body, record_at}
 use Rattle.fsrm_journal.specs.Reading.{Comes, Read}
-use Rattle.fsrm_journal.proofs.Walks.{stands}
+use Rattle.fsrm_journal.proofs.Walks.{stands, comes_then}
 use Rattle.record_codec.specs.Entries.{decoded}
 use Rattle.fsrm_store.specs.Keeps.{Spell}
 use Rattle.fsrm_store.specs.States.{with_entry, with_record, first_entries}
@@ -44,19 +44,25 @@ pub record Found (half : List ℕ) (place : ℕ) (entries : List Entry) : Type 0
 found_none : (half : List ℕ) (place : ℕ) → record_at half place ≡ Ok None → Found half place []
 found_none half place is = record { bodies = []; read = record { end = place; comes = refl; stops = is }; spell = tt }
 
+-- a reader that comes to a record
+pub comes_one : (half : List ℕ) (place p n : ℕ) → record_at half place ≡ Ok (Some (p, n)) → Comes half place (take n (drop p half) ∷ []) (p + n)
+comes_one half place p n is =
+    let s = stands half place p n is in
+    let body = take n (drop p half) in
+    let whole : place + 5 + n ≤ length half = s.0.whole in
+    let long : length body ≡ n = omega (arith, length-take n (drop p half), length-drop p half, whole, s.1) in
+    let there : record_at half place ≡ Ok (Some (place + 5, length body)) = is ∙ ap (λ (p : ℕ). Ok (Some (p, n))) (sym s.1) ∙ ap (λ (n : ℕ). Ok (Some (place + 5, n))) (sym long) in
+    let same : take (length body) (drop (place + 5) half) ≡ body = ap (λ (k : ℕ). take k (drop (place + 5) half)) long ∙ ap (λ (p : ℕ). take n (drop p half)) s.1 in
+    let next : place + 5 + length body ≡ p + n = omega (arith, s.1, long) in
+    (there, same, next)
+
 found_some : (half : List ℕ) (place p n : ℕ) (entry : Entry) (entries : List Entry) → record_at half place ≡ Ok (Some (p, n)) → decoded (take n (drop p half)) ≡ Ok entry → Found half (p + n) entries → Found half place (entry ∷ entries)
 found_some half place p n entry entries is spells rest =
-    let s = stands half place p n is in
-    let body = take n (drop (place + 5) half) in
-    let whole : place + 5 + n ≤ length half = s.0.whole in
-    let long : length body ≡ n = omega (arith, length-take n (drop (place + 5) half), length-drop (place + 5) half, whole) in
-    let there : record_at half place ≡ Ok (Some (place + 5, length body)) = is ∙ ap (λ (p : ℕ). Ok (Some (p, n))) (sym s.1) ∙ ap (λ (n : ℕ). Ok (Some (place + 5, n))) (sym long) in
-    let same : take (length body) (drop (place + 5) half) ≡ body = ap (λ (n : ℕ). take n (drop (place + 5) half)) long in
-    let next : p + n ≡ place + 5 + length body = omega (arith, s.1, long) in
+    let body = take n (drop p half) in
     record {
       bodies = body ∷ rest.bodies;
-      read = record { end = rest.read.end; comes = (there, same, subst (λ (k : ℕ). Comes half k rest.bodies rest.read.end) next rest.read.comes); stops = rest.read.stops };
-      spell = (ap (λ (p : ℕ). decoded (take n (drop p half))) s.1 ∙ spells, rest.spell);
+      read = record { end = rest.read.end; comes = comes_then half place (p + n) rest.read.end (body ∷ []) rest.bodies (comes_one half place p n is) rest.read.comes; stops = rest.read.stops };
+      spell = (spells, rest.spell);
     }
 
 abbrev same : Result (List Entry) ℕ → Result (List Entry) ℕ → Type 0
@@ -80,3 +86,20 @@ entries_found half (suc most) place entries is =
     by_record more (Err damaged) e is = absurd (cc is)
     by_record more (Ok None) e is = subst (Found half place) (ok_is [] entries is) (found_none half place e)
     by_record more (Ok (Some (p, n))) e is = by_entry more p n e (decoded (take n (drop p half))) refl (first_entries most half (p + n)) refl is
+
+-- ---- where a reader stops at a damage
+past_end : (half : List ℕ) (place : ℕ) → length half ≤ place → record_at half place ≡ Err place
+past_end half place past = ap (λ (b : Bool). with_body half place (cond (not b) (Err place) (cond (not (nat_eq (slice_index half place) 1)) (Ok None) (cond (not (has_length half place)) (Err (place + 1)) (Ok (Some (length_at half place))))))) (le-ltb place (length half) past)
+
+pub entries_damaged : (half : List ℕ) (damaged most place end : ℕ) (bodies : List (List ℕ)) (entries : List Entry) → Comes half place bodies end → Spell bodies entries → ((k : ℕ) → first_entries (suc k) half end ≡ Err damaged) → length half < most + place
+    → first_entries most half place ≡ Err damaged
+entries_damaged half damaged zero place end [] entries comes s stops h =
+    let none : record_at half place ≡ Err place = past_end half place (omega (arith, h)) in
+    sym (ap (with_record (first_entries zero half) half) none) ∙ (ap (first_entries 1 half) comes ∙ stops 0)
+entries_damaged half damaged zero place end (body ∷ bodies) entries comes s stops h = absurd (past half place (Some (place + 5, length body)) comes.0 (omega (arith, h)))
+entries_damaged half damaged (suc most) place end [] entries comes s stops h = ap (first_entries (suc most) half) comes ∙ stops most
+entries_damaged half damaged (suc most) place end (body ∷ bodies) [] comes s stops h = absurd s
+entries_damaged half damaged (suc most) place end (body ∷ bodies) (e ∷ es) comes s stops h =
+    ap (with_record (first_entries most half) half) comes.0
+    ∙ (ap (λ r. with_entry (place + 5) r (first_entries most half (place + 5 + length body))) (ap decoded comes.1 ∙ s.0)
+    ∙ ap (with_entry (place + 5) (Ok e)) (entries_damaged half damaged most (place + 5 + length body) end bodies es comes.2 s.1 stops (omega (arith, h))))

@@ -1,4 +1,5 @@
 pub mod HoldsStore
 pub mod Keeps
+pub mod Reads
 pub mod States
 pub mod WorkedStates

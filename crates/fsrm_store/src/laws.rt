@@ -1,30 +1,36 @@
 //! What is proved of the bytes of a store.
 
-ghost use Rattle.std.specs.Prelude.{◌≡◌, ◌⊎◌, ◌↔◌, ◌≤◌, ℕ, List, [], ◌++◌, true, false, Ok, length};
+ghost use Rattle.std.specs.Prelude.{◌≡◌, ◌⊎◌, ◌↔◌, ◌≤◌, ◌+◌, ℕ, List, [], ◌∷◌, ◌++◌, true, false, None, Some, Ok, Err, length, take, drop};
 ghost use Rattle.std.specs.List.{list_all};
 ghost use Rattle.fsrm_model.specs.commands.Step.{step};
 ghost use Rattle.fsrm_model.specs.declared.command.Command.{Command};
+ghost use Rattle.fsrm_model.specs.declared.command.Entry.{Entry};
 ghost use Rattle.fsrm_model.specs.declared.row.Capacity.{Capacity};
 ghost use Rattle.fsrm_model.specs.declared.row.Rows.{Rows};
 ghost use Rattle.fsrm_model.specs.nodes.Fresh.{new_rows};
 ghost use Rattle.fsrm_model.specs.store.Lasting.{lasting};
 ghost use Rattle.fsrm_model.specs.store.OldReplays.{old_replayed};
-ghost use Rattle.fsrm_model.specs.store.Replays.{journal_entry, command_entries, is_valid_entry};
-ghost use Rattle.fsrm_model.specs.store.Valid.{IsValid};
+ghost use Rattle.fsrm_model.specs.store.Replays.{recovered, journal_entry, command_entries, is_valid_entry};
+ghost use Rattle.fsrm_model.specs.store.Valid.{is_valid, IsValid};
 ghost use Rattle.fsrm_model.specs.store.Valued.{is_command};
 ghost use Rattle.fsrm_outside.specs.Parts.{Parts, part_of};
 ghost use Rattle.fsrm_outside.specs.declared.traits.Part.{Part};
 ghost use Rattle.fsrm_journal.specs.Formatted.{has_store};
+ghost use Rattle.fsrm_journal.specs.Next.{record_at};
+ghost use Rattle.fsrm_journal.specs.Opened.{judged_parts};
 ghost use Rattle.fsrm_journal.specs.Records.{records};
+ghost use Rattle.fsrm_journal.specs.declared.fault.JournalFault.TheVariants.{Damaged};
 ghost use Rattle.fsrm_journal.specs.declared.heads.Head.{Head};
 ghost use Rattle.record_fields.specs.Laws.{AreBytes};
+ghost use Rattle.record_codec.specs.Entries.{decoded};
 ghost use Rattle.record_codec.specs.Writing.{IsWritable};
 ghost use Rattle.image_codec.specs.Images.{image_in};
 ghost use Rattle.image_codec.specs.NewImage.{new_image};
 ghost use Rattle.fsrm_store.specs.HoldsStore.{HoldsStore, HoldsWithOrWithout, HoldsOldOrNew};
 ghost use Rattle.fsrm_store.specs.Keeps.{Spell, HoldsState, HoldsOldState, Keeps, HasTail};
 ghost use Rattle.fsrm_store.specs.States.{state_of};
-ghost use Rattle.fsrm_store.specs.States.State.{NoState, Holds};
+ghost use Rattle.fsrm_store.specs.States.State.{NoState, DamagedAt, Holds};
+ghost use Rattle.fsrm_store.specs.Reads.{Rules, image_bytes, ComesTo};
 ghost use Rattle.fsrm_store.specs.WorkedStates.{no_bytes, closed_gates, new_store, no_part, newer_half, equal_halves, wrong_version, cut_image, short_image, short_part, wrong_rows, one_record, refused_record, closed_record, no_gate, no_length, length_zero, no_body, no_next_gate, wrong_kind, wrong_owner, long_body};
 
 /// What the bytes of a store hold.
@@ -38,6 +44,30 @@ pub fn states()
     ensures valid { (K : Capacity) (R : Rows) (parts : Parts) (h : HoldsState K R parts) → AreBytes (part_of h.ruling parts) → list_all is_valid_entry h.entries ≡ true }
     // Entries that a store of version 1 was given come to the rows that the machine of that time made of them.
     ensures old { (K : Capacity) (R : Rows) (parts : Parts) (h : HoldsOldState K R parts) → lasting (old_replayed K h.state.base h.state.entries) ≡ R }
+{}
+
+/// What a reader finds is the state of the bytes.
+pub fn reading()
+    // The heads are damaged.
+    ensures heads { (parts : Parts) (part : Part) (place : ℕ) → judged_parts parts ≡ Err (Damaged part place) → state_of parts ≡ DamagedAt part place }
+    // The image isn't one, or tells rows that aren't valid, or tells valid ones: then the records come.
+    ensures image { (parts : Parts) (ruling : Part) (head : Head) (wrong : ℕ) → Rules ruling head parts → image_in head.image (image_bytes ruling head parts) ≡ Err wrong
+        → state_of parts ≡ DamagedAt ruling (48 + wrong) }
+    ensures rows { (parts : Parts) (ruling : Part) (head : Head) (base : Rows) → Rules ruling head parts → image_in head.image (image_bytes ruling head parts) ≡ Ok base → is_valid head.size base ≡ false
+        → state_of parts ≡ DamagedAt ruling 48 }
+    ensures found { (parts : Parts) (ruling : Part) (head : Head) (base : Rows) → Rules ruling head parts → image_in head.image (image_bytes ruling head parts) ≡ Ok base → is_valid head.size base ≡ true
+        → ComesTo ruling head base [] (48 + head.image) parts }
+    // A record isn't there, or its body spells no entry, or one: then the next record comes.
+    ensures record { (parts : Parts) (ruling : Part) (head : Head) (base : Rows) (entries : List Entry) (end place : ℕ) → ComesTo ruling head base entries end parts
+        → record_at (part_of ruling parts) end ≡ Err place → state_of parts ≡ DamagedAt ruling place }
+    ensures body { (parts : Parts) (ruling : Part) (head : Head) (base : Rows) (entries : List Entry) (end place long wrong : ℕ) → ComesTo ruling head base entries end parts
+        → record_at (part_of ruling parts) end ≡ Ok (Some (place, long)) → decoded (take long (drop place (part_of ruling parts))) ≡ Err wrong → state_of parts ≡ DamagedAt ruling (place + wrong) }
+    ensures next { (parts : Parts) (ruling : Part) (head : Head) (base : Rows) (entries : List Entry) (end place long : ℕ) (entry : Entry) → ComesTo ruling head base entries end parts
+        → record_at (part_of ruling parts) end ≡ Ok (Some (place, long)) → decoded (take long (drop place (part_of ruling parts))) ≡ Ok entry
+        → ComesTo ruling head base (entries ++ entry ∷ []) (place + long) parts }
+    // The gate is closed: these are all entries.
+    ensures all { (parts : Parts) (ruling : Part) (head : Head) (base : Rows) (entries : List Entry) (end : ℕ) → ComesTo ruling head base entries end parts
+        → record_at (part_of ruling parts) end ≡ Ok None → state_of parts ≡ Holds head.size (recovered head.size base entries) }
 {}
 
 /// What the bytes of a store keep of its rows while they are written.
