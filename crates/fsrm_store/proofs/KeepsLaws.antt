@@ -37,7 +37,7 @@ use Rattle.image_codec.specs.Images.{image_in}
 use Rattle.image_codec.specs.NewImage.{new_image}
 use Rattle.image_codec.proofs.NewImage.{new_spelled}
 use Rattle.image_codec.proofs.WholeImages.{image_again}
-use Rattle.fsrm_store.specs.HoldsStore.{HoldsWithOrWithout, HoldsOldOrNew}
+use Rattle.fsrm_store.specs.HoldsStore.{HoldsStore, HoldsWithOrWithout, HoldsOldOrNew}
 use Rattle.fsrm_store.specs.Keeps.{Spell, HoldsState, HoldsOldState, Keeps}
 
 pub spell_more : (bodies more : List (List ℕ)) (entries others : List Entry) → Spell bodies entries → Spell more others → Spell (bodies ++ more) (entries ++ others)
@@ -56,9 +56,8 @@ keeps_settled kept head image bodies R k =
     let all : k.written ≡ k.written ++ k.waiting = sym (append-nil k.written) ∙ ap (λ (es : List Entry). k.written ++ es) (sym (none_waits k.waiting k.holds)) in
     sym k.recovers ∙ (ap (recovered head.size k.base) all ∙ k.journaled.recovers)
 
-pub crash_leaves : (ruling : Part) (kept : Rows) (head : Head) (image : List ℕ) (bodies held : List (List ℕ)) (R : Rows) (parts : Parts) → Keeps kept head image bodies held R → HoldsWithOrWithout ruling head image bodies held parts
-    → HoldsState head.size kept parts ⊎ HoldsState head.size (lasting R) parts
-crash_leaves ruling kept head image bodies held R parts k (inl s) = inl record {
+pub written_holds : (ruling : Part) (kept : Rows) (head : Head) (image : List ℕ) (bodies held : List (List ℕ)) (R : Rows) (parts : Parts) → Keeps kept head image bodies held R → HoldsStore ruling head image bodies parts → HoldsState head.size kept parts
+written_holds ruling kept head image bodies held R parts k s = record {
   ruling = ruling;
   head = head;
   image = image;
@@ -70,18 +69,23 @@ crash_leaves ruling kept head image bodies held R parts k (inl s) = inl record {
   size = refl;
   recovers = k.recovers;
 }
-crash_leaves ruling kept head image bodies held R parts k (inr s) = inr record {
-  ruling = ruling;
-  head = head;
-  image = image;
-  bodies = bodies ++ held;
+
+-- once what is held is written, too
+pub flush_keeps : (kept : Rows) (head : Head) (image : List ℕ) (bodies held : List (List ℕ)) (R : Rows) → Keeps kept head image bodies held R → Keeps (lasting R) head image (bodies ++ held) [] R
+flush_keeps kept head image bodies held R k = record {
   base = k.base;
-  entries = k.written ++ k.waiting;
-  store = s;
+  written = k.written ++ k.waiting;
+  waiting = [];
   tells = record { rows = k.tells.rows; valid = k.tells.valid; told = spell_more bodies held k.written k.waiting k.tells.told k.holds };
-  size = refl;
+  holds = tt;
+  journaled = subst (λ (es : List Entry). IsJournaled head.size k.base es R) (sym (append-nil (k.written ++ k.waiting))) k.journaled;
   recovers = k.journaled.recovers;
 }
+
+pub crash_leaves : (ruling : Part) (kept : Rows) (head : Head) (image : List ℕ) (bodies held : List (List ℕ)) (R : Rows) (parts : Parts) → Keeps kept head image bodies held R → HoldsWithOrWithout ruling head image bodies held parts
+    → HoldsState head.size kept parts ⊎ HoldsState head.size (lasting R) parts
+crash_leaves ruling kept head image bodies held R parts k (inl s) = inl (written_holds ruling kept head image bodies held R parts k s)
+crash_leaves ruling kept head image bodies held R parts k (inr s) = inr (written_holds ruling (lasting R) head image (bodies ++ held) [] R parts (flush_keeps kept head image bodies held R k) s)
 
 -- ---- what a store's calls keep
 pub opened_keeps : (K : Capacity) (R : Rows) (parts : Parts) (h : HoldsState K R parts) → list_all is_valid_entry h.entries ≡ true → Keeps R h.head h.image h.bodies [] R
@@ -110,17 +114,6 @@ command_keeps kept head image bodies held more R c k legal spell = record {
       subst (λ (es : List Entry). IsJournaled head.size k.base es (step head.size R c).rows) (append_assoc k.written k.waiting (command_entries head.size R c))
       (journaled_next head.size k.base (k.written ++ k.waiting) R c k.journaled legal);
   recovers = k.recovers;
-}
-
-pub flush_keeps : (kept : Rows) (head : Head) (image : List ℕ) (bodies held : List (List ℕ)) (R : Rows) → Keeps kept head image bodies held R → Keeps (lasting R) head image (bodies ++ held) [] R
-flush_keeps kept head image bodies held R k = record {
-  base = k.base;
-  written = k.written ++ k.waiting;
-  waiting = [];
-  tells = record { rows = k.tells.rows; valid = k.tells.valid; told = spell_more bodies held k.written k.waiting k.tells.told k.holds };
-  holds = tt;
-  journaled = subst (λ (es : List Entry). IsJournaled head.size k.base es R) (sym (append-nil (k.written ++ k.waiting))) k.journaled;
-  recovers = k.journaled.recovers;
 }
 
 pub image_keeps : (head : Head) (image : List ℕ) (R : Rows) → IsValid head.size R → image_in (length image) image ≡ Ok (lasting R) → Keeps (lasting R) head image [] [] R
@@ -155,30 +148,10 @@ entry_writable K R c s legal lasts = deed_writable K R c.moment c.deed s legal l
 -- ---- what a change to another half leaves
 pub change_leaves : (ruling : Part) (kept : Rows) (head next : Head) (image new : List ℕ) (bodies : List (List ℕ)) (R : Rows) (parts : Parts) → Keeps kept head image bodies [] R → Keeps (lasting R) next new [] [] R → next.size ≡ head.size
     → HoldsOldOrNew ruling head image bodies next new parts → HoldsState head.size (lasting R) parts
-change_leaves ruling kept head next image new bodies R parts k l size (inl s) = record {
-  ruling = ruling;
-  head = head;
-  image = image;
-  bodies = bodies;
-  base = k.base;
-  entries = k.written;
-  store = s;
-  tells = k.tells;
-  size = refl;
-  recovers = k.recovers ∙ keeps_settled kept head image bodies R k;
-}
-change_leaves ruling kept head next image new bodies R parts k l size (inr s) = record {
-  ruling = other ruling;
-  head = next;
-  image = new;
-  bodies = [];
-  base = l.base;
-  entries = l.written;
-  store = s;
-  tells = l.tells;
-  size = size;
-  recovers = l.recovers;
-}
+change_leaves ruling kept head next image new bodies R parts k l size (inl s) =
+    subst (λ (kept : Rows). HoldsState head.size kept parts) (keeps_settled kept head image bodies R k) (written_holds ruling kept head image bodies [] R parts k s)
+change_leaves ruling kept head next image new bodies R parts k l size (inr s) =
+    subst (λ (size : Capacity). HoldsState size (lasting R) parts) size (written_holds (other ruling) (lasting R) next new [] [] R parts l s)
 
 -- ---- entries that bytes spell are valid
 bytes_front : (n : ℕ) (bytes : List ℕ) → AreBytes bytes → AreBytes (take n bytes)

@@ -9,19 +9,22 @@ use Rattle.fsrm_outside.specs.Parts.{Parts, part_of}
 use Rattle.fsrm_outside.specs.declared.traits.Part.{Part}
 use Rattle.fsrm_journal.specs.Next.{record_at}
 use Rattle.fsrm_journal.specs.Opened.{judged_parts}
-use Rattle.fsrm_journal.specs.declared.fault.JournalFault.TheVariants.{Damaged}
+use Rattle.fsrm_journal.specs.declared.fault.JournalFault.TheVariants.{NoStore, Damaged}
 use Rattle.fsrm_journal.specs.declared.heads.Head.{Head}
 use Rattle.fsrm_journal.proofs.Walks.{comes_then}
 use Rattle.record_codec.specs.Entries.{decoded}
 use Rattle.image_codec.specs.Images.{image_in}
 use Rattle.fsrm_store.specs.States.{valid_rows, image_rows, with_entry, with_record, first_entries, entries_from, done_again, rows_since, with_rows, half_state, by_heads, state_of}
-use Rattle.fsrm_store.specs.States.State.{DamagedAt, Holds}
+use Rattle.fsrm_store.specs.States.State.{NoState, DamagedAt, Holds}
 use Rattle.fsrm_store.specs.Reads.{Rules, image_bytes, ComesTo}
 use Rattle.fsrm_store.proofs.KeepsLaws.{spell_more}
 use Rattle.fsrm_store.proofs.RecordWalks.{comes_one, entries_told, entries_damaged}
 
 pub heads_damaged : (parts : Parts) (part : Part) (place : ℕ) → judged_parts parts ≡ Err (Damaged part place) → state_of parts ≡ DamagedAt part place
 heads_damaged parts part place is = ap (by_heads parts) is
+
+pub heads_none : (parts : Parts) → judged_parts parts ≡ Err NoStore → state_of parts ≡ NoState
+heads_none parts is = ap (by_heads parts) is
 
 -- the state is that of the half that rules
 of_half : (parts : Parts) (ruling : Part) (head : Head) → Rules ruling head parts → state_of parts ≡ half_state ruling head (part_of ruling parts)

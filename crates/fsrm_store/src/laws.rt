@@ -19,7 +19,7 @@ ghost use Rattle.fsrm_journal.specs.Formatted.{has_store};
 ghost use Rattle.fsrm_journal.specs.Next.{record_at};
 ghost use Rattle.fsrm_journal.specs.Opened.{judged_parts};
 ghost use Rattle.fsrm_journal.specs.Records.{records};
-ghost use Rattle.fsrm_journal.specs.declared.fault.JournalFault.TheVariants.{Damaged};
+ghost use Rattle.fsrm_journal.specs.declared.fault.JournalFault.TheVariants.{NoStore, Damaged};
 ghost use Rattle.fsrm_journal.specs.declared.heads.Head.{Head};
 ghost use Rattle.record_fields.specs.Laws.{AreBytes};
 ghost use Rattle.record_codec.specs.Entries.{decoded};
@@ -48,7 +48,8 @@ pub fn states()
 
 /// What a reader finds is the state of the bytes.
 pub fn reading()
-    // The heads are damaged.
+    // The heads say that there is no store, or are damaged.
+    ensures none { (parts : Parts) → judged_parts parts ≡ Err NoStore → state_of parts ≡ NoState }
     ensures heads { (parts : Parts) (part : Part) (place : ℕ) → judged_parts parts ≡ Err (Damaged part place) → state_of parts ≡ DamagedAt part place }
     // The image isn't one, or tells rows that aren't valid, or tells valid ones: then the records come.
     ensures image { (parts : Parts) (ruling : Part) (head : Head) (wrong : ℕ) → Rules ruling head parts → image_in head.image (image_bytes ruling head parts) ≡ Err wrong
@@ -72,6 +73,9 @@ pub fn reading()
 
 /// What the bytes of a store keep of its rows while they are written.
 pub fn calls()
+    // Parts that hold the bytes that are written hold what was kept.
+    ensures holds { (ruling : Part) (kept : Rows) (head : Head) (image : List ℕ) (bodies held : List (List ℕ)) (R : Rows) (parts : Parts)
+        → Keeps kept head image bodies held R → HoldsStore ruling head image bodies parts → HoldsState head.size kept parts }
     // What is held is written: before that, or after it. So what a crash leaves is what was kept, or what is kept of the
     // rows now.
     ensures crash { (ruling : Part) (kept : Rows) (head : Head) (image : List ℕ) (bodies held : List (List ℕ)) (R : Rows) (parts : Parts)

@@ -1,5 +1,8 @@
-use Rattle.fsrm_store.proofs.KeepsLaws.{crash_leaves, keeps_settled, change_leaves, opened_keeps, entry_writable, command_keeps, flush_keeps, image_keeps, new_keeps}
+use Rattle.fsrm_store.proofs.KeepsLaws.{written_holds, crash_leaves, keeps_settled, change_leaves, opened_keeps, entry_writable, command_keeps, flush_keeps, image_keeps, new_keeps}
 use Rattle.fsrm_store.proofs.laws.calls.Goals as goal
+
+pub returns-clause-holds : goal.returns-clause-holds
+returns-clause-holds c = written_holds
 
 pub returns-clause-crash : goal.returns-clause-crash
 returns-clause-crash c = crash_leaves

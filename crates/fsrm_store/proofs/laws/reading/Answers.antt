@@ -1,5 +1,8 @@
-use Rattle.fsrm_store.proofs.ReadLaws.{heads_damaged, image_damaged, rows_damaged, image_found, record_damaged, body_damaged, record_found, all_found}
+use Rattle.fsrm_store.proofs.ReadLaws.{heads_none, heads_damaged, image_damaged, rows_damaged, image_found, record_damaged, body_damaged, record_found, all_found}
 use Rattle.fsrm_store.proofs.laws.reading.Goals as goal
+
+pub returns-clause-none : goal.returns-clause-none
+returns-clause-none c = heads_none
 
 pub returns-clause-heads : goal.returns-clause-heads
 returns-clause-heads c = heads_damaged
