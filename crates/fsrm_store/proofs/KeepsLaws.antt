@@ -37,7 +37,7 @@ use Rattle.image_codec.specs.Images.{image_in}
 use Rattle.image_codec.specs.NewImage.{new_image}
 use Rattle.image_codec.proofs.NewImage.{new_spelled}
 use Rattle.image_codec.proofs.WholeImages.{image_again}
-use Rattle.fsrm_store.specs.HoldsStore.{HoldsStore, HoldsWithOrWithout, HoldsOldOrNew}
+use Rattle.fsrm_journal.specs.Stores.{HoldsStore, HoldsWithOrWithout, HoldsOldOrNew}
 use Rattle.fsrm_store.specs.Keeps.{Spell, HoldsState, HoldsOldState, Keeps}
 
 pub spell_more : (bodies more : List (List ℕ)) (entries others : List Entry) → Spell bodies entries → Spell more others → Spell (bodies ++ more) (entries ++ others)

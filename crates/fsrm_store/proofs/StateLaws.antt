@@ -15,11 +15,10 @@ use Rattle.fsrm_journal.specs.Reading.{Comes, Read}
 use Rattle.fsrm_journal.specs.declared.fault.JournalFault.{JournalFault}
 use Rattle.fsrm_journal.specs.declared.fault.JournalFault.TheVariants.{NoStore, AlreadyStore, Damaged, DiskFault, NoMemory}
 use Rattle.fsrm_journal.specs.declared.heads.Head.{Head}
-use Rattle.fsrm_journal.proofs.Walks.{read_once}
+use Rattle.fsrm_journal.proofs.Stores.{one_store}
 use Rattle.record_codec.specs.Entries.{decoded}
 use Rattle.image_codec.specs.Images.{image_in}
 use Rattle.image_codec.proofs.KeptImages.{read_whole}
-use Rattle.fsrm_store.specs.HoldsStore.{HoldsStore, SameStore}
 use Rattle.fsrm_store.specs.Keeps.{Spell, HoldsState}
 use Rattle.fsrm_store.specs.States.{valid_rows, image_rows, entries_from, done_again, rows_since, with_rows, half_state, by_heads, state_of}
 use Rattle.fsrm_store.specs.States.State.{Holds}
@@ -28,17 +27,7 @@ use Rattle.fsrm_store.proofs.RecordWalks.{entries_told, entries_found}
 pub same_ok : {A E : Type 0} (a b : A) (r : Result A E) → r ≡ Ok a → r ≡ Ok b → a ≡ b
 same_ok a b r e f = cc
 
--- ---- bytes hold one store, and one state
-pub one_store : (parts : Parts) (ruling also : Part) (head next : Head) (image new : List ℕ) (bodies more : List (List ℕ)) → HoldsStore ruling head image bodies parts → HoldsStore also next new more parts
-    → SameStore ruling also head next image new bodies more
-one_store parts r q head next image new bodies more a b =
-    let rule = same_ok r q (judged_parts parts) a.rules b.rules in
-    let heads : head ≡ next = sym a.says ∙ ap (λ (x : Part). head_says (head_of (part_of x parts))) rule ∙ b.says in
-    let long : length image ≡ length new = sym a.whole ∙ ap (λ (h : Head). h.image) heads ∙ b.whole in
-    let images : image ≡ new = sym a.holds ∙ ap (λ (n : ℕ). take n (drop 48 (part_of r parts))) long ∙ ap (λ (x : Part). take (length new) (drop 48 (part_of x parts))) rule ∙ b.holds in
-    let there : Read (part_of q parts) (48 + length new) bodies = subst (λ (n : ℕ). Read (part_of q parts) (48 + n) bodies) long (subst (λ (x : Part). Read (part_of x parts) (48 + length image) bodies) rule a.reads) in
-    record { rules = rule; heads = heads; images = images; records = read_once (part_of q parts) (48 + length new) bodies more there b.reads }
-
+-- ---- bytes hold one state
 one_spelled : (bodies : List (List ℕ)) (entries others : List Entry) → Spell bodies entries → Spell bodies others → entries ≡ others
 one_spelled [] [] [] a b = refl
 one_spelled [] [] (e ∷ es) a b = absurd b

@@ -10,7 +10,7 @@ use Rattle.fsrm_journal.specs.Records.{records}
 use Rattle.fsrm_journal.specs.declared.heads.Head.{Head}
 use Rattle.fsrm_journal.proofs.Tails.{stands_after}
 use Rattle.fsrm_journal.proofs.Walks.{read_once}
-use Rattle.fsrm_store.specs.HoldsStore.{HoldsStore}
+use Rattle.fsrm_journal.specs.Stores.{HoldsStore}
 use Rattle.fsrm_store.specs.Keeps.{HasTail}
 use Rattle.fsrm_store.proofs.StateLaws.{same_ok}
 

@@ -15,7 +15,7 @@ use Rattle.fsrm_journal.specs.Reading.{Read}
 use Rattle.fsrm_journal.specs.declared.heads.Head.{Head}
 use Rattle.record_codec.specs.Entries.{decoded}
 use Rattle.image_codec.specs.Images.{image_in}
-use Rattle.fsrm_store.specs.HoldsStore.{HoldsStore}
+use Rattle.fsrm_journal.specs.Stores.{HoldsStore}
 
 -- bodies that spell entries, one for one
 abbrev pub Spell : List (List ℕ) → List Entry → Type 0

@@ -1,4 +1,3 @@
-pub mod HoldsStore
 pub mod Keeps
 pub mod Reads
 pub mod States

@@ -26,7 +26,7 @@ ghost use Rattle.record_codec.specs.Entries.{decoded};
 ghost use Rattle.record_codec.specs.Writing.{IsWritable};
 ghost use Rattle.image_codec.specs.Images.{image_in};
 ghost use Rattle.image_codec.specs.NewImage.{new_image};
-ghost use Rattle.fsrm_store.specs.HoldsStore.{HoldsStore, HoldsWithOrWithout, HoldsOldOrNew};
+ghost use Rattle.fsrm_journal.specs.Stores.{HoldsStore, HoldsWithOrWithout, HoldsOldOrNew};
 ghost use Rattle.fsrm_store.specs.Keeps.{Spell, HoldsState, HoldsOldState, Keeps, HasTail};
 ghost use Rattle.fsrm_store.specs.States.{state_of};
 ghost use Rattle.fsrm_store.specs.States.State.{NoState, DamagedAt, Holds};
