@@ -1,8 +1,8 @@
 -- Entries that may be written have a spelling, which has room.
-use Rattle.std.proofs.Common.{◌≡◌, ℕ, ◌≤◌, true, List, [], ◌++◌, length, take, drop, Option, Some, None, refl, sym, ap, ◌∙◌, arith, length-append}
+use Rattle.std.proofs.Common.{◌≡◌, ℕ, ◌≤◌, true, List, [], ◌++◌, length, take, drop, Option, Some, None, refl, sym, ap, subst, ◌∙◌, arith, length-append}
 use Rattle.std.specs.Prelude.{◌&&◌, is_some, option_map, false}
 use Rattle.std.specs.Option.{option_map_or}
-use Rattle.std.proofs.lemmas.List.{length-take, take-append-le}
+use Rattle.std.proofs.lemmas.List.{length-take, take_at, take-take}
 use Rattle.fsrm_base.proofs.TestLaws.{both, both_true}
 use Rattle.fsrm_model.specs.commands.Commands.{kind}
 use Rattle.fsrm_model.specs.declared.command.Deed.{Deed}
@@ -20,7 +20,7 @@ use Rattle.record_codec.specs.Deeds.{deed_code, deed_kind, deed_values, deed_spe
 use Rattle.record_codec.specs.Entries.{Does, Finishes, entry_kind, values, body, entry}
 use Rattle.record_codec.specs.Fields.{moment, folder}
 use Rattle.record_codec.specs.Kinds.{tagged_legal, tagged_spelled}
-use Rattle.record_codec.specs.Writing.{IsWritable, entry_typed}
+use Rattle.record_codec.specs.Writing.{IsWritable, WritesEntry, entry_typed}
 use Rattle.record_codec.proofs.DeedLaws.{deed_known, deed_numbered}
 use Rattle.record_codec.proofs.DeedWriting.{short_of, deed_legal, deed_long, deed_body}
 use Rattle.record_codec.proofs.Legal.{within_legal, from_zero, one_byte, eight_bytes}
@@ -70,10 +70,15 @@ writable_room (Finish at number) writable =
     omega (arith, length-append (moment.spell at) after, eight_bytes at, length-append (entry_kind.spell FinishKind) (folder.spell number), one_byte 99, eight_bytes number)
 
 -- what is written into the front of a buffer with room for the longest entry
-pub written_whole : (e : Entry) (into new : List ℕ) (end : ℕ) → IsWritable e → longest_entry ≤ length into → Writes (take longest_entry into) 0 new end (entry.spell e)
-    → (end ≡ length (entry.spell e)) × ((take end (new ++ drop longest_entry into) ≡ entry.spell e) × (end ≤ longest_entry))
-written_whole e into new end writable room w =
+pub in_front : {bytes : List ℕ} (old new : List ℕ) (end : ℕ) → longest_entry ≤ length old → Writes (take longest_entry old) 0 new end bytes → Writes (take longest_entry old) 0 (take longest_entry (new ++ drop longest_entry old)) end bytes
+in_front {bytes = bytes} old new end room w =
+    let size : length new ≡ longest_entry = omega (arith, room, w.room, length-take longest_entry old) in
+    subst (λ (n : List ℕ). Writes (take longest_entry old) 0 n end bytes) (sym (take_at new (drop longest_entry old) longest_entry size)) w
+
+pub written_whole : (e : Entry) (old new : List ℕ) (end : ℕ) → IsWritable e → longest_entry ≤ length old → WritesEntry old new end e
+    → (end ≡ length (entry.spell e)) × ((take end new ≡ entry.spell e) × (end ≤ longest_entry))
+written_whole e old new end writable room w =
     let some = writable_room e writable in
-    let front : length (take longest_entry into) ≡ longest_entry = omega (arith, room, length-take longest_entry into) in
-    let all = whole (take longest_entry into) new (entry.spell e) 0 end w (omega (arith, some, front)) in
-    (omega (arith, all.0), (take-append-le end new (drop longest_entry into) w.within ∙ all.1, omega (arith, all.0, some)))
+    let front : length (take longest_entry old) ≡ longest_entry = omega (arith, room, length-take longest_entry old) in
+    let all = whole (take longest_entry old) (take longest_entry new) (entry.spell e) 0 end w (omega (arith, some, front)) in
+    (omega (arith, all.0), (sym (take-take end longest_entry new (omega (arith, all.0, some))) ∙ all.1, omega (arith, all.0, some)))

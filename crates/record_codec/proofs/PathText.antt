@@ -1,5 +1,5 @@
 -- The spelling of a path.
-use Rattle.std.proofs.Common.{◌≡◌, ◌⊎◌, inl, inr, ℕ, zero, suc, ◌+◌, ◌-◌, ◌<◌, Bool, true, false, List, [], ◌∷◌, ◌++◌, length, Some, None, Ok, Err, refl, sym, ap, subst, ◌∙◌, arith, length-append}
+use Rattle.std.proofs.Common.{◌≡◌, ◌⊎◌, inl, inr, ℕ, zero, suc, ◌+◌, ◌-◌, ◌*◌, ◌<◌, Bool, true, false, List, [], ◌∷◌, ◌++◌, length, Some, None, Ok, Err, refl, sym, ap, subst, ◌∙◌, append_assoc, arith, length-append}
 use Rattle.std.specs.Prelude.{◌==◌, ◌&&◌, ◌||◌, ◌/◌, ◌%◌, not, nat_lt, nat_le, slice_index, bytes_eq, codes}
 use Rattle.std.specs.List.{join_with_byte, list_all}
 use Rattle.std.specs.Str.{IsAscii, IsUtf8, is_utf8}
@@ -125,15 +125,28 @@ low_bytes n =
     let second : n % 65536 / 256 % 256 ≡ n / 256 % 256 = omega arith in
     rw (first, second) refl
 
+-- a path's length and its volume, as one number
+pub front_spelled : (size : ℕ) → number_spelled 5 (size % 65536 + 6044228 * 65536) ≡ number_spelled 2 size ++ codes "D:\\"
+unfolding number_spelled
+front_spelled size =
+    let first : (size % 65536 + 6044228 * 65536) % 256 ≡ size % 256 = omega arith in
+    let second : (size % 65536 + 6044228 * 65536) / 256 % 256 ≡ size / 256 % 256 = omega arith in
+    let third : (size % 65536 + 6044228 * 65536) / 65536 % 256 ≡ 68 = omega arith in
+    let fourth : (size % 65536 + 6044228 * 65536) / 16777216 % 256 ≡ 58 = omega arith in
+    let fifth : (size % 65536 + 6044228 * 65536) / 4294967296 % 256 ≡ 92 = omega arith in
+    rw (first, second, third, fourth, fifth) refl
+
 -- a path's length and its volume, and then the names
-pub path_written : {o m n : List ℕ} {a b c : ℕ} (path : Path) (names : List ℕ) (size : ℕ) (bytes : List ℕ) → names ≡ join_with_byte 92 path → size ≡ (3 + length names) % 65536 → bytes ≡ size % 256 ∷ size / 256 % 256 ∷ []
-    → Writes o a m b (slice_index bytes 0 ∷ slice_index bytes 1 ∷ codes "D:\\") → Writes m b n c names → Writes o a n c (text_spelled (path_text path))
-unfolding number_spelled text_spelled
-path_written {o = o} {m = m} {n = n} {a = a} {b = b} {c = c} path names size bytes is low spelled p q =
+pub path_written : {o m n : List ℕ} {a b c : ℕ} (path : Path) (names : List ℕ) (front : ℕ) → names ≡ join_with_byte 92 path → number_spelled 5 front ≡ number_spelled 2 (3 + length names) ++ codes "D:\\"
+    → Writes o a m b (number_spelled 5 front) → Writes m b n c names → Writes o a n c (text_spelled (path_text path))
+unfolding text_spelled
+path_written {o = o} {m = m} {n = n} {a = a} {b = b} {c = c} path names front is spelled p q =
     let text : codes "D:\\" ++ names ≡ path_text path = ap (λ ns. codes "D:\\" ++ ns) is in
-    let same : number_spelled 2 size ≡ number_spelled 2 (length (path_text path)) = ap (number_spelled 2) low ∙ low_bytes (3 + length names) ∙ ap (number_spelled 2) (omega (arith, ap length text)) in
-    let front : slice_index bytes 0 ∷ slice_index bytes 1 ∷ codes "D:\\" ≡ number_spelled 2 (length (path_text path)) ++ codes "D:\\" = ap (λ (bs : List ℕ). slice_index bs 0 ∷ slice_index bs 1 ∷ codes "D:\\") (spelled ∙ same) in
-    subst (Writes o a n c) (ap (λ (t : List ℕ). number_spelled 2 (length (path_text path)) ++ t) text) (writes_then (subst (Writes o a m b) front p) q)
+    let size : 3 + length names ≡ length (path_text path) = omega (arith, ap length text) in
+    let parts : number_spelled 5 front ++ names ≡ number_spelled 2 (length (path_text path)) ++ path_text path =
+    ap (λ (f : List ℕ). f ++ names) spelled ∙ append_assoc (number_spelled 2 (3 + length names)) (codes "D:\\") names
+    ∙ ap (λ (k : ℕ). number_spelled 2 k ++ (codes "D:\\" ++ names)) size ∙ ap (λ (t : List ℕ). number_spelled 2 (length (path_text path)) ++ t) text in
+    subst (Writes o a n c) parts (writes_then p q)
 
 -- ---- a path's text is UTF-8
 are_ascii : (bytes : List ℕ) → list_all (λ b. nat_lt b 128) bytes ≡ true → IsAscii bytes

@@ -1,5 +1,5 @@
 -- Entries that are written: what they stand for, and which may be.
-use Rattle.std.specs.Prelude.{◌≡◌, ◌-◌, ◌≤◌, ◌^◌, nat_le, Bool, true, length, is_some}
+use Rattle.std.specs.Prelude.{◌≡◌, ◌-◌, ◌≤◌, ◌^◌, nat_le, ℕ, Bool, true, List, length, take, is_some}
 use Rattle.std.specs.List.{list_all}
 use Rattle.fsrm_model.specs.commands.Commands.{kind, paths_of_op}
 use Rattle.fsrm_model.specs.declared.command.Deed.{Deed}
@@ -10,6 +10,7 @@ use Rattle.fsrm_model.specs.declared.command.FileOp.{FileOp}
 use Rattle.fsrm_model.specs.store.Valid.{is_moment}
 use Rattle.fsrm_model.specs.store.Valued.{is_command}
 use Rattle.fsrm_model.specs.values.Limits.{longest_entry}
+use Rattle.record_fields.specs.Writers.{Writes}
 use Rattle.record_codec.specs.declared.entry.EntryRef.{EntryRef}
 use Rattle.record_codec.specs.declared.entry.EntryRef.TheVariants.{Order as OrderRef, Op as OpRef, Finish as FinishRef}
 use Rattle.record_codec.specs.Autoquotas.{autoquota_typed}
@@ -31,6 +32,10 @@ lent (FinishRef moment folder) = Finish moment folder
 abbrev pub IsWritable : Entry → Type 0
 IsWritable (Order command) = (is_command command ≡ true) × (is_some (kind command.deed) ≡ true)
 IsWritable (Finish moment folder) = is_moment moment ≡ true
+
+-- it is written from the first byte on, as far as there is room for the longest entry
+abbrev pub WritesEntry : List ℕ → List ℕ → ℕ → Entry → Type 0
+WritesEntry old new end e = Writes (take longest_entry old) 0 (take longest_entry new) end (entry.spell e)
 
 -- it has a spelling, which a journal takes
 abbrev pub IsSpelled : Entry → Type 0

@@ -45,27 +45,32 @@ impl FileKind {
 pub fn read_op(alloc: Global, reader: &mut Reader<'_>, kind: FileKind) -> Result<FileOp, FieldFault>
     ensures { Gives result reader.new ((file_op kind).read reader.old) }
 {
-    let path = PathField::read(alloc, reader)?;
+    // Each kind reads its path by itself: a jump by the kind that came after the loop over a path's bytes would be
+    // guessed wrong more often.
     Ok(match kind {
         FileKind::Mkdir => FileOp::Mkdir {
-            path,
+            path: PathField::read(alloc, reader)?,
             owner: read_owner(reader)?,
         },
         FileKind::Create => FileOp::Create {
-            path,
+            path: PathField::read(alloc, reader)?,
             length: read_length(reader)?,
             owner: read_owner(reader)?,
         },
         FileKind::Resize => FileOp::Resize {
-            path,
+            path: PathField::read(alloc, reader)?,
             length: read_length(reader)?,
         },
-        FileKind::Touch => FileOp::Touch { path },
+        FileKind::Touch => FileOp::Touch {
+            path: PathField::read(alloc, reader)?,
+        },
         FileKind::Move => FileOp::Move {
-            from: path,
+            from: PathField::read(alloc, reader)?,
             to: PathField::read(alloc, reader)?,
         },
-        FileKind::Remove => FileOp::Remove { path },
+        FileKind::Remove => FileOp::Remove {
+            path: PathField::read(alloc, reader)?,
+        },
     })
 }
 

@@ -1,6 +1,6 @@
 //! Paths.
 
-ghost use Rattle.std.specs.Prelude.{◌≡◌, ◌≤◌, ◌==◌, ◌+◌, ◌-◌, ◌%◌, ◌++◌, true, length, slice_index};
+ghost use Rattle.std.specs.Prelude.{◌≡◌, ◌≤◌, ◌==◌, ◌+◌, ◌-◌, ◌++◌, true, codes, length, slice_index};
 ghost use Rattle.record_fields.specs.Formats.{number_spelled, text_spelled};
 ghost use Rattle.record_fields.specs.Writers.{Writes};
 ghost use Rattle.record_codec.specs.Decoding.{Finds};
@@ -10,8 +10,12 @@ ghost use Rattle.record_codec.specs.Typed.{is_path_text};
 
 use fsrm_model::Path;
 use name_rules::{PathFault, read_path};
+use record_fields::writer::put_number;
 use record_fields::{Field, FieldFault, Flaw, Reader, put, put_u8};
 use std::alloc::Global;
+
+// `D:\` as a number, the lowest byte first.
+const VOLUME: u64 = 0x5c_3a_44;
 
 /// A path: `D:\` and its names, joined by `\`. It is a text, and so one field.
 pub struct PathField;
@@ -80,8 +84,7 @@ pub fn put_path(path: &Path, into: &mut [u8], at: usize) -> usize
     ensures text { is_path_text path.now ≡ true }
 {
     let names = path.joined();
-    let [low, high] = low_len(names).to_le_bytes();
-    let begun = put(into, at, &[low, high, b'D', b':', b'\\']);
+    let begun = put_number(into, at, 5, front(names));
     put(into, begun, names.as_bytes())
 }
 
@@ -96,10 +99,10 @@ pub fn put_on_path(kind: u8, path: &Path, into: &mut [u8], at: usize) -> usize
     put_path(path, into, after)
 }
 
-// How long the text of a path with these names is, modulo 2^16. An entry is only written of a path for which this is
-// its whole length.
-fn low_len(names: &str) -> u16
-    ensures { result ≡ (3 + length names.now) % 65536 }
+// What stands before the names of a path, as a number: the length of its text in two bytes, and its volume. An entry is
+// only written of a path whose length has room there.
+fn front(names: &str) -> u64
+    ensures { number_spelled 5 result ≡ number_spelled 2 (3 + length names.now) ++ codes "D:\\" }
 {
-    ((3 + names.len()) % 65_536) as u16
+    ((3 + names.len()) % 65_536) as u64 + VOLUME * 65_536
 }

@@ -35,13 +35,29 @@ fn put_front(into: &mut [u8], at: usize, bytes: &[u8]) -> usize
 }
 
 /// Writes the low bytes of a number, so many of them, the lowest first.
+// If not all have room, what is passed on is the number, and no reference to its bytes: so these need no memory.
+#[inline(always)]
 pub fn put_number(into: &mut [u8], at: usize, width: usize, number: u64) -> usize
     requires place { at ≤ length into.old }
     requires width { width ≤ 8 }
     ensures { Writes into.old at into.new result (number_spelled width number) }
 {
+    if into.len() - at < width {
+        return put_number_front(into, at, width, number);
+    }
     let bytes = number.to_le_bytes();
     put(into, at, &bytes[..width])
+}
+
+// Writes the first of a number's low bytes, as many as have room.
+#[inline(never)]
+fn put_number_front(into: &mut [u8], at: usize, width: usize, number: u64) -> usize
+    requires place { at ≤ length into.old }
+    requires width { width ≤ 8 }
+    ensures { Writes into.old at into.new result (number_spelled width number) }
+{
+    let bytes = number.to_le_bytes();
+    put_front(into, at, &bytes[..width])
 }
 
 /// Writes a number in one byte.

@@ -1,0 +1,6 @@
+use Rattle.record_fields.proofs.WriterLaws.{writes_then}
+use Rattle.record_codec.proofs.EntryWriting.{in_front}
+use Rattle.record_codec.proofs.encoding.put_file_order.Goals as goal
+
+pub returns-clause-written : goal.returns-clause-written
+returns-clause-written c = in_front c.args.into.now c.put_op.new.into c.put_op.result c.requires (writes_then c.put_u64-at.ensures c.put_op.ensures.written)
