@@ -19,6 +19,8 @@ impl Field for NodeField {
 
     ghost format = { node_format };
 
+    // Inlined into the loop over rows, so that a row's fields go from the bytes to their list.
+    #[inline(always)]
     #[tactic(auto, unfolding(record_fields::specs::Formats::known_at))]
     fn read(alloc: Global, reader: &mut Reader<'_>) -> Result<NodeRow, FieldFault> {
         let number = reader.read_u32()?;
