@@ -1,3 +1,4 @@
+pub mod Ahead
 pub mod Besides
 pub mod Files
 pub mod Gates

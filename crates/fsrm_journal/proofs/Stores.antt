@@ -97,7 +97,7 @@ added_store r place head image bodies held old parts store end was now legal =
       reads = reads_all log (48 + length image) bodies held old parts was comes now legal;
     }
 
-none_next : (half : List ℕ) (place : ℕ) (r : Result (Option ℕ) ℕ) → with_body half place r ≡ Ok None → r ≡ Ok None
+pub none_next : (half : List ℕ) (place : ℕ) (r : Result (Option ℕ) ℕ) → with_body half place r ≡ Ok None → r ≡ Ok None
 none_next half place (Err damaged) is = absurd (cc)
 none_next half place (Ok None) is = refl
 none_next half place (Ok (Some n)) is = absurd (never (nat_le (place + 5 + n) (length half)) is)

@@ -13,6 +13,7 @@ ghost use Rattle.fsrm_outside.specs.declared.traits.Part.TheVariants.{Zero, One}
 ghost use Rattle.fsrm_outside.specs.Moments.{EachImage};
 ghost use Rattle.fsrm_outside.specs.Parts.{Parts, part_of, other};
 ghost use Rattle.fsrm_outside.specs.Settling.{Settles};
+ghost use Rattle.fsrm_journal.specs.Ahead.{ahead};
 ghost use Rattle.fsrm_journal.specs.Records.{batch, counted, longest_record, records, Holds, HoldsAllOrNone, Log, Settled};
 ghost use Rattle.fsrm_journal.specs.declared.fault.JournalFault.TheVariants.{AlreadyStore, Damaged, DiskFault};
 
@@ -23,7 +24,8 @@ use crate::batches::{open_gate, stage};
 use crate::fault::JournalFault;
 use crate::heads::{Head, head_says, is_open, judged};
 use crate::limits::LONGEST_RECORD;
-use crate::reading::{damaged, next_length};
+use crate::reading::record_in;
+use crate::window::Window;
 use byteorder::{ByteOrder, LittleEndian};
 use fsrm_base::NoMemory;
 use fsrm_outside::{Disk, Failed, Part};
@@ -43,6 +45,8 @@ pub struct Journal {
     image_end: u64,
     // How many bytes the half had when it was opened.
     len: u64,
+    // What was read ahead of the records.
+    window: Window,
     // Where the next piece comes in the half that is being written.
     written: u64,
     // The records that are held, without the first one's gate.
@@ -118,11 +122,23 @@ fn is_open_beside(ruling: Part, zero: &[u8], one: &[u8]) -> bool
     }
 }
 
+// Memory for a record that is held, and to read ahead.
+fn room(alloc: Global) -> Result<(Vec<u8>, Window), NoMemory>
+    ensures empty { IfOk result (λ room. room.0.items ≡ []) }
+    ensures room { IfOk result (λ room. longest_record ≤ vec_capacity room.0) }
+    ensures unread { IfOk result (λ room. ahead room.1 ≡ []) }
+{
+    let bytes = Vec::with_capacity(alloc, LONGEST_RECORD)?;
+    let window = Window::new(alloc)?;
+    Ok((bytes, window))
+}
+
 impl Journal {
     ghost use Rattle.fsrm_journal.specs.Opened.{IsOpened, IsRefused, ReadsOn, StandsOn};
     ghost use Rattle.fsrm_journal.specs.Next.{record_at, Tells};
     ghost use Rattle.fsrm_journal.specs.Reading.{log_at, Comes};
     ghost use Rattle.fsrm_outside.specs.Settling.{Stable};
+    ghost use Rattle.fsrm_journal.specs.Sight.{Sees};
     ghost use Rattle.fsrm_journal.specs.Stores.{image_there, HoldsWithOrWithout, Holding, ReadUpTo, Stands, StandsAt};
     ghost use Rattle.fsrm_journal.specs.declared.heads.Head.{Head};
 
@@ -136,6 +152,7 @@ impl Journal {
     /// a record.
     pub fn open_at<D: Disk>(alloc: Global, disk: &mut D) -> Result<(Journal, Head), JournalFault>
         ensures opened { ForSome (D.reads disk.old) (λ parts. IfOk result (λ opened. IsOpened parts opened.0 opened.1)) }
+        ensures sees { ForSome (D.reads disk.old) (λ parts. IfOk result (λ opened. Sees (part_of opened.0.ruling parts) opened.0)) }
         ensures reading { ForSome (D.reads disk.old) (λ parts. IfOk result (λ opened. ReadUpTo opened.1 [] [] parts opened.0)) }
         ensures beside { ForSome (D.reads disk.old) (λ parts. IfOk result (λ opened. 0 < length (part_of (other opened.0.ruling) parts))) }
         ensures legal { IfOk result (λ opened. IsLegal opened.1) }
@@ -160,7 +177,7 @@ impl Journal {
         let len = disk.len(ruling)?;
         let head = head_ruling(ruling, &zero[..zero_len], &one[..one_len]);
         let beside_open = is_open_beside(ruling, &zero[..zero_len], &one[..one_len]);
-        let Ok(bytes) = Vec::with_capacity(alloc, LONGEST_RECORD) else {
+        let Ok((bytes, window)) = room(alloc) else {
             return Err(JournalFault::NoMemory);
         };
         let journal = Journal {
@@ -170,6 +187,7 @@ impl Journal {
             end: 48,
             image_end: head.image.saturating_add(48),
             len,
+            window,
             written: 0,
             bytes,
             held: 0,
@@ -194,6 +212,7 @@ impl Journal {
             → IfOk result (λ n. n ≡ 0 → image ≡ image_there head (part_of self.old.ruling parts)) }
         ensures end { IfOk result (λ n. self.new.end ≡ self.old.end + n) }
         ensures err { OnErr result (self.new.end ≡ self.old.end) }
+        ensures sees { (half : List ℕ) → Sees half self.old → Sees half self.new }
         ensures same { ReadsOn self.old self.new }
         ensures stable { Stable D.reads D.disk_clock D.images disk.old → Stable D.reads D.disk_clock D.images disk.new }
         ensures reads { D.reads disk.new ≡ D.reads disk.old }
@@ -202,6 +221,7 @@ impl Journal {
         ensures only { OnErr result (result ≡ Err DiskFault) }
         ensures cause { HasCause (D.disk_faults disk.old) (D.disk_faults disk.new) result }
     {
+        self.window.clear();
         let left = self.image_end.min(self.len).saturating_sub(self.end);
         let room = left.min(into.len() as u64) as usize;
         let count = disk.read_at(self.ruling, self.end, &mut into[..room])?;
@@ -213,6 +233,9 @@ impl Journal {
     /// to which was read, since a gate and a length come before a body. `None` exactly at the first closed gate: from
     /// then on records may be added there.
     ///
+    /// It reads ahead, as many bytes at a time as the longest record has, so a short record mostly costs no call of the
+    /// disk.
+    ///
     /// `Damaged` exactly at a gate that is missing, at a length that isn't there or isn't legal, or at a body that
     /// isn't there whole; `DiskFault` exactly if the disk counted a failed call, and only where its count stands at
     /// `u64::MAX` may it come uncounted. After either the place of the next record is as it was.
@@ -222,10 +245,10 @@ impl Journal {
         into: &mut [u8],
     ) -> Result<Option<(u64, usize)>, JournalFault>
         requires room { longest_entry ≤ length into.old }
-        ensures tells { ForSome (D.reads disk.old) (λ parts. self.old.len ≡ length (part_of self.old.ruling parts)
+        ensures tells { ForSome (D.reads disk.old) (λ parts. Sees (part_of self.old.ruling parts) self.old
             → Tells self.old.ruling (record_at (part_of self.old.ruling parts) self.old.end) result) }
         ensures only { OnErr result ((result ≡ Err DiskFault) ⊎ ((place : ℕ) × (result ≡ Err (Damaged self.old.ruling place)))) }
-        ensures body { ForSome (D.reads disk.old) (λ parts. self.old.len ≡ length (part_of self.old.ruling parts)
+        ensures body { ForSome (D.reads disk.old) (λ parts. Sees (part_of self.old.ruling parts) self.old
             → IfOk result (λ found. IfSome found (λ at. take at.1 into.new ≡ take at.1 (drop at.0 (part_of self.old.ruling parts))))) }
         ensures reading { (parts : Parts) (head : Head) (image : List ℕ) (bodies : List (List ℕ)) → D.reads disk.old ≡ Some parts → ReadUpTo head image bodies parts self.old
             → IfOk result (λ found. IfSome found (λ at. ReadUpTo head image (bodies ++ take at.1 into.new ∷ []) parts self.new)) }
@@ -236,10 +259,11 @@ impl Journal {
         ensures end { IfOk result (λ found. IfSome found (λ at. self.new.end ≡ at.0 + at.1)) }
         ensures stays { IfOk result (λ found. found ≡ None → self.new.end ≡ self.old.end) }
         ensures err { OnErr result (self.new.end ≡ self.old.end) }
-        ensures settled { ForSome (D.reads disk.old) (λ parts. self.old.len ≡ length (part_of self.old.ruling parts) → Stable D.reads D.disk_clock D.images disk.old
+        ensures settled { ForSome (D.reads disk.old) (λ parts. Sees (part_of self.old.ruling parts) self.old → Stable D.reads D.disk_clock D.images disk.old
             → IfOk result (λ found. found ≡ None → Settled D.reads D.disk_clock D.images (log_at self.old.ruling self.old.end parts) [] self.new.ruling self.new.end disk.new)) }
-        ensures ready { ForSome (D.reads disk.old) (λ parts. self.old.len ≡ length (part_of self.old.ruling parts)
+        ensures ready { ForSome (D.reads disk.old) (λ parts. Sees (part_of self.old.ruling parts) self.old
             → IfOk result (λ found. found ≡ None → ForSome (D.reads disk.new) (λ now. self.new.end < length (part_of self.new.ruling now)))) }
+        ensures sees { ForSome (D.reads disk.old) (λ parts. Sees (part_of self.old.ruling parts) self.old → Sees (part_of self.new.ruling parts) self.new) }
         ensures same { ReadsOn self.old self.new }
         ensures stable { Stable D.reads D.disk_clock D.images disk.old → Stable D.reads D.disk_clock D.images disk.new }
         ensures reads { D.reads disk.new ≡ D.reads disk.old }
@@ -249,18 +273,13 @@ impl Journal {
         ensures failed { IsErrOf result DiskFault → Rose (D.disk_faults disk.old) (D.disk_faults disk.new) }
         ensures counted { IsErrOf result DiskFault ⊎ (D.disk_faults disk.new ≡ D.disk_faults disk.old) }
     {
-        let Some(size) = next_length(disk, self.ruling, self.len, self.end)? else {
+        self.window.reach(disk, self.ruling, self.end)?;
+        let found = record_in(self.window.ahead(), self.ruling, self.len, self.end)?;
+        let Some((place, size)) = found else {
             return Ok(None);
         };
-        let place = self.end + 5;
-        let size = size as usize;
-        if self.len - place < size as u64 {
-            return Err(damaged(self.ruling, place));
-        }
-        let count = disk.read_at(self.ruling, place, &mut into[..size])?;
-        if count < size {
-            return Err(damaged(self.ruling, place));
-        }
+        into[..size].copy_from_slice(&self.window.ahead()[5..5 + size]);
+        self.window.pass(5 + size);
         self.end = place + size as u64;
         Ok(Some((place, size)))
     }

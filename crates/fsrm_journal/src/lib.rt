@@ -24,6 +24,7 @@ mod journal;
 pub mod laws;
 mod limits;
 mod reading;
+mod window;
 
 pub use fault::JournalFault;
 pub use heads::Head;

@@ -1,82 +1,56 @@
-//! Parts of a record, read.
+//! The record in bytes that were read ahead.
 
-ghost use Rattle.std.specs.Prelude.{◌≡◌, ◌⊎◌, ◌≤◌, ◌<◌, ◌+◌, ◌^◌, ℕ, length, drop, slice_index, Err, IfOk, IfSome, IsErrOf, OnErr};
+ghost use Rattle.std.specs.Prelude.{◌≡◌, ◌⊎◌, ◌≤◌, ◌<◌, ◌+◌, ◌^◌, ℕ, List, length, drop, slice_index, Err, IfOk, IfSome, OnErr};
 ghost use Rattle.byteorder.specs.Endian.{little_number};
-ghost use Rattle.std.specs.Option.{ForSome};
 ghost use Rattle.fsrm_model.specs.values.Limits.{longest_entry};
-ghost use Rattle.fsrm_outside.specs.Causes.{HasCause, Rose};
-ghost use Rattle.fsrm_journal.specs.Next.{next_length, Tells};
-ghost use Rattle.fsrm_journal.specs.declared.fault.JournalFault.TheVariants.{Damaged, DiskFault};
-ghost use Rattle.fsrm_outside.specs.Changes.{Same, Through};
-ghost use Rattle.fsrm_outside.specs.Parts.{part_of};
+ghost use Rattle.fsrm_journal.specs.Next.{record_at, Tells};
+ghost use Rattle.fsrm_journal.specs.Ahead.{AreEnough, StandThere};
+ghost use Rattle.fsrm_journal.specs.declared.fault.JournalFault.TheVariants.{Damaged};
 
 use crate::fault::JournalFault;
 use byteorder::{ByteOrder, LittleEndian};
 use fsrm_model::limits::LONGEST_ENTRY;
-use fsrm_outside::{Disk, Failed, Part};
+use fsrm_outside::Part;
 
-/// The byte at a place, if there is one.
-pub fn read_byte<D: Disk>(disk: &mut D, part: Part, place: u64) -> Result<u8, Failed>
-    ensures byte { ForSome (D.reads disk.old) (λ parts. place < length (part_of part parts) → IfOk result (λ byte. byte ≡ slice_index (part_of part parts) place)) }
-    ensures reads { D.reads disk.new ≡ D.reads disk.old }
-    ensures crash { Through D.disk_clock D.images Same disk.old disk.new }
-    ensures by { D.by_disk disk.old disk.new }
-    ensures cause { HasCause (D.disk_faults disk.old) (D.disk_faults disk.new) result }
-{
-    let mut byte = [0];
-    disk.read_at(part, place, &mut byte)?;
-    Ok(byte[0])
-}
-
-/// The number in the four bytes from a place on, if they are there.
-pub fn read_number<D: Disk>(disk: &mut D, part: Part, place: u64) -> Result<u32, Failed>
-    ensures number { ForSome (D.reads disk.old) (λ parts. place + 4 ≤ length (part_of part parts) → IfOk result (λ n. n ≡ little_number 4 (drop place (part_of part parts)))) }
-    ensures reads { D.reads disk.new ≡ D.reads disk.old }
-    ensures crash { Through D.disk_clock D.images Same disk.old disk.new }
-    ensures by { D.by_disk disk.old disk.new }
-    ensures cause { HasCause (D.disk_faults disk.old) (D.disk_faults disk.new) result }
-{
-    let mut bytes = [0; 4];
-    disk.read_at(part, place, &mut bytes)?;
-    Ok(LittleEndian::read_u32(&bytes))
-}
-
-/// The length of the body of the record at a place of the half that rules, or none at a closed gate.
-pub fn next_length<D: Disk>(
-    disk: &mut D,
+/// The place and the length of the body of the record that stands at a place of the half that rules, which is so long,
+/// or none at a closed gate. The bytes are those from there on, enough of them for the longest record, unless the half
+/// ends.
+pub fn record_in(
+    bytes: &[u8],
     ruling: Part,
     len: u64,
     place: u64,
-) -> Result<Option<u32>, JournalFault>
-    requires { place ≤ 2 ^ 62 }
-    ensures tells { ForSome (D.reads disk.old) (λ parts. len ≡ length (part_of ruling parts) → Tells ruling (next_length (part_of ruling parts) place) result) }
-    ensures only { OnErr result ((result ≡ Err DiskFault) ⊎ ((at : ℕ) × (result ≡ Err (Damaged ruling at)))) }
-    ensures legal { IfOk result (λ found. IfSome found (λ n. (1 ≤ n) × (n ≤ longest_entry) × (place + 5 ≤ len))) }
-    ensures reads { D.reads disk.new ≡ D.reads disk.old }
-    ensures crash { Through D.disk_clock D.images Same disk.old disk.new }
-    ensures by { D.by_disk disk.old disk.new }
-    ensures later { D.disk_faults disk.old ≤ D.disk_faults disk.new }
-    ensures failed { IsErrOf result DiskFault → Rose (D.disk_faults disk.old) (D.disk_faults disk.new) }
-    ensures counted { IsErrOf result DiskFault ⊎ (D.disk_faults disk.new ≡ D.disk_faults disk.old) }
+) -> Result<Option<(u64, usize)>, JournalFault>
+    requires place { place ≤ 2 ^ 62 }
+    requires len { len ≤ 2 ^ 62 }
+    ensures tells { (half : List ℕ) → len ≡ length half → StandThere half place bytes.now → AreEnough half place bytes.now → Tells ruling (record_at half place) result }
+    ensures only { OnErr result ((at : ℕ) × (result ≡ Err (Damaged ruling at))) }
+    ensures there { IfOk result (λ found. IfSome found (λ at. (at.0 ≡ place + 5) × (at.0 + at.1 ≤ len))) }
+    ensures size { IfOk result (λ found. IfSome found (λ at. (1 ≤ at.1) × (at.1 ≤ longest_entry))) }
+    ensures whole { IfOk result (λ found. IfSome found (λ at. at.1 + 5 ≤ length bytes.now)) }
 {
-    if place >= len {
+    if place >= len || bytes.is_empty() {
         return Err(damaged(ruling, place));
     }
-    if read_byte(disk, ruling, place)? != 1 {
+    if bytes[0] != 1 {
         return Ok(None);
     }
-    if len < place + 5 {
+    if len < place + 5 || bytes.len() < 5 {
         return Err(damaged(ruling, place + 1));
     }
-    let size = read_number(disk, ruling, place + 1)?;
+    let size = LittleEndian::read_u32(&bytes[1..]);
     if size < 1 || size > LONGEST_ENTRY as u32 {
         return Err(damaged(ruling, place + 1));
     }
-    Ok(Some(size))
+    let (body, size) = (place + 5, size as usize);
+    if len - body < size as u64 || bytes.len() - 5 < size {
+        return Err(damaged(ruling, body));
+    }
+    Ok(Some((body, size)))
 }
 
 /// The damage at a place.
-pub fn damaged(part: Part, place: u64) -> JournalFault
+fn damaged(part: Part, place: u64) -> JournalFault
     ensures { result ≡ Damaged part place }
 {
     JournalFault::Damaged { part, place }

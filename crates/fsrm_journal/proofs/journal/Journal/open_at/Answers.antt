@@ -4,6 +4,8 @@ use Rattle.fsrm_journal.proofs.Turns.{rules_wins, has_gate}
 use Rattle.std.proofs.lemmas.List.Elements.{All-nil}
 use Rattle.std.proofs.lemmas.Result.{err_from_is_err_and}
 use Rattle.fsrm_journal.specs.Reading.{IsBody}
+use Rattle.fsrm_journal.specs.Ahead.{ahead}
+use Rattle.fsrm_journal.proofs.Ahead.{none_there}
 use Rattle.fsrm_journal.proofs.Readings.{read_head}
 use Rattle.fsrm_outside.proofs.Stages.{DiskLaws, quiet_then}
 use Rattle.fsrm_outside.proofs.Settling.{still_stable, settles_then, settles_as}
@@ -93,10 +95,16 @@ returns-clause-any_moment g c =
     let laws : DiskLaws g.D.Disk.disk_clock g.D.Disk.images g.D.Disk.by_disk = record { same = M.disk_same; then_by = M.disk_then; later = M.disk_later; past = M.disk_past } in
     settles_then laws _ _ _ c.read_heads.ensures.by c.len.ensures.by c.len.ensures.crash c.len.ensures.reads (λ err. absurd (cc (err.1))) c.in_ok-zero_len.ensures.any_moment
 
+pub returns-clause-sees : goal.returns-clause-sees
+returns-clause-sees g c parts told =
+    let o = returns-clause-opened g c parts told in
+    let none : ahead c.in-Ok.window ≡ [] = search rules in
+    record { long = o.long; window = none_there (part_of c.in_ok-ruling.ruling parts) 48 _ none }
+
 pub returns-clause-reading : goal.returns-clause-reading
 returns-clause-reading g c parts told =
     let o = returns-clause-opened g c parts told in
-    read_head parts _ _ o (record { long = o.long })
+    read_head parts _ _ o (returns-clause-sees g c parts told)
 
 pub returns-clause-holding : goal.returns-clause-holding
 returns-clause-holding g c =
