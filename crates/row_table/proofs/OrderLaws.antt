@@ -1,8 +1,21 @@
--- A list whose part from a place on has lost its first entry.
-use Rattle.std.proofs.Common.{◌≡◌, ℕ, suc, ◌+◌, ◌-◌, ◌<◌, ◌≤◌, List, ◌++◌, drop, length, length-append, take, ◌∙◌, ap, subst, arith}
+-- A list whose part from a place on has lost its first entry, and entries of which one has gone.
+use Rattle.std.proofs.Common.{◌≡◌, ℕ, zero, suc, ◌+◌, ◌-◌, ◌<◌, ◌≤◌, ◌==◌, nat_le, nat_lt, Bool, true, false, cond, inl, inr, List, [], ◌∷◌, ◌++◌, Option, Some, None, IfSome, MatchOption, drop, length, length-append, slice_get, slice_set, take, refl, sym, ◌∙◌, ap, subst, arith}
 use Rattle.std.proofs.Math.Seq.{take-append-add}
 use Rattle.std.proofs.lemmas.List.{drop-drop, length-drop, length-take-le, take-append-le, take-take, take_rest}
+use Rattle.std.proofs.lemmas.Bool.{cases_eq}
+use Rattle.std.proofs.lemmas.Option.{same_Some}
 use Rattle.std.specs.List.{remove}
+use Rattle.fsrm_base.specs.Keyed.{has_row, is_ascending, row_of, with_row, without_row}
+use Rattle.fsrm_base.specs.Places.{IsAt}
+use Rattle.fsrm_base.proofs.EditedRows.{ascending_tail}
+use Rattle.fsrm_base.proofs.Look.{has_row-without, has_row-without_other, row_of-without}
+use Rattle.fsrm_base.proofs.Order.{parts}
+use Rattle.fsrm_base.proofs.SortedRows.{ascending-remove, later_above, remove_found, row_at, row_found, there}
+use Rattle.fsrm_base.proofs.TestLaws.{clash, eq_above, eq_below, eq_is, eq_test, ge_is, gt_is, is_apart, le_is, lt_is, lt_test, not_lt}
+use Rattle.row_table.specs.declared.index.Entry.{Entry}
+use Rattle.row_table.specs.Indexed.{AreIndexed, number_of}
+use Rattle.row_table.specs.Ordered.{IsOrder, living, place_among, place_in}
+use Rattle.row_table.proofs.IndexLaws.{held_less, held_more, indexed}
 
 abbrev pub part : {X : Type 0} → List X → ℕ → List X
 part xs place = take (length xs - place) (drop place xs)
@@ -22,3 +35,146 @@ cut xs moved after tail place n m within all less rest same =
     ∙ (ap (λ j. take j (take place xs ++ (moved ++ after))) ends
     ∙ (take-append-add (take place xs) (moved ++ after) k
     ∙ ap (λ l. take place xs ++ l) (take-append-le k moved after (omega (arith, long, length-drop place xs)) ∙ (left ∙ (drop-drop 1 place xs ∙ ap (λ j. drop j xs) next))))))
+
+-- ---- one of the entries has gone
+abbrev Within : Option ℕ → List Entry → Type 0
+Within gone es = IfSome gone (λ place. place < length es)
+
+-- the number of the one that stands at a place
+abbrev number_at : (es : List Entry) (p : ℕ) → p < length es → ℕ
+number_at es p l = (there es p l).row.number
+
+own_place : (es : List Entry) (p : ℕ) → is_ascending number_of es ≡ true → (l : p < length es) → IsAt number_of (number_at es p l) es p
+own_place es p a l =
+    let f = there es p l in
+    record { within = l; found = f.is ∙ sym (row_at number_of f.row.number es p f.row a f.is refl) }
+
+less_own : (es : List Entry) (p : ℕ) → is_ascending number_of es ≡ true → (l : p < length es) → remove es p ≡ without_row number_of (number_at es p l) es
+less_own es p a l = remove_found number_of (number_at es p l) es p a (own_place es p a l)
+
+pub shorter : (es : List Entry) (p : ℕ) → p < length es → length (remove es p) + 1 ≡ length es
+shorter es p l = omega (arith, length-append (take p es) (drop (suc p) es), length-take-le p es (omega arith), length-drop (suc p) es)
+
+pub living_ascending : (gone : Option ℕ) (es : List Entry) → is_ascending number_of es ≡ true → Within gone es → is_ascending number_of (living gone es) ≡ true
+living_ascending None es a l = a
+living_ascending (Some p) es a l = ascending-remove number_of (number_at es p l) es p a (own_place es p a l)
+
+-- ---- where those that are there stand
+kept_before : (es : List Entry) (p i : ℕ) → i < p → slice_get (remove es p) i ≡ slice_get es i
+kept_before [] zero i l = absurd (omega arith)
+kept_before [] (suc p) i l = refl
+kept_before (x ∷ es) zero i l = absurd (omega arith)
+kept_before (x ∷ es) (suc p) zero l = refl
+kept_before (x ∷ es) (suc p) (suc i) l = kept_before es p i (omega arith)
+
+kept_after : (es : List Entry) (p i : ℕ) → p ≤ i → slice_get (remove es p) i ≡ slice_get es (suc i)
+kept_after [] zero i l = refl
+kept_after [] (suc p) i l = refl
+kept_after (x ∷ es) zero i l = refl
+kept_after (x ∷ es) (suc p) zero l = absurd (omega arith)
+kept_after (x ∷ es) (suc p) (suc i) l = kept_after es p i (omega arith)
+
+stands_at : (es : List Entry) (p i : ℕ) (b : Bool) → nat_le p i ≡ b → slice_get (remove es p) i ≡ slice_get es (cond b (i + 1) i)
+stands_at es p i true e =
+    let next : suc i ≡ i + 1 = omega arith in
+    kept_after es p i (le_is p i e) ∙ ap (slice_get es) next
+stands_at es p i false e = kept_before es p i (gt_is p i e)
+
+pub stands : (gone : Option ℕ) (es : List Entry) (i : ℕ) → slice_get (living gone es) i ≡ slice_get es (place_in gone i)
+stands None es i = refl
+stands (Some p) es i = stands_at es p i (nat_le p i) refl
+
+stands_within_at : (es : List Entry) (p i : ℕ) (b : Bool) → nat_le p i ≡ b → i + 1 < length es → cond b (i + 1) i < length es
+stands_within_at es p i true e l = l
+stands_within_at es p i false e l = omega (arith, l)
+
+pub stands_within : (gone : Option ℕ) (es : List Entry) (i : ℕ) → Within gone es → i < length (living gone es) → place_in gone i < length es
+stands_within None es i l within = within
+stands_within (Some p) es i l within = stands_within_at es p i (nat_le p i) refl (omega (arith, within, shorter es p l))
+
+-- ---- their places among those that are there
+ascends : (es : List Entry) (i j : ℕ) (r s : Entry) → is_ascending number_of es ≡ true → i < j → slice_get es i ≡ Some r → slice_get es j ≡ Some s → r.number < s.number
+ascends [] i j r s a l h k = cc
+ascends (x ∷ es) i zero r s a l h k = absurd (omega arith)
+ascends (x ∷ es) zero (suc j) r s a l h k = subst (λ (y : Entry). y.number < s.number) (same_Some x r h) (later_above number_of x es j s a k)
+ascends (x ∷ es) (suc i) (suc j) r s a l h k = ascends es i j r s (ascending_tail number_of x es a) (omega arith) h k
+
+-- a number at another place than the one that has gone is found as before
+other_found : (es : List Entry) (p n i : ℕ) → is_ascending number_of es ≡ true → (l : p < length es) → IsAt number_of n es i → (n == number_at es p l) ≡ false → row_of number_of n es ≡ row_of number_of n (remove es p)
+other_found es p n i a l at apart =
+    sym (ap (row_of number_of n) (less_own es p a l) ∙ row_of-without number_of (number_at es p l) n es apart)
+
+place_later : (es : List Entry) (p n i : ℕ) → is_ascending number_of es ≡ true → (l : p < length es) → IsAt number_of n es i → p < i → IsAt number_of n (remove es p) (i - 1)
+place_later es p n i a l at before =
+    let f = row_found number_of n es i at in
+    let g = there es p l in
+    let below : g.row.number < f.row.number = ascends es p i g.row f.row a before g.is f.at in
+    let next : suc (i - 1) ≡ i = omega (arith, before) in
+    record {
+      within = omega (arith, shorter es p l, at.within, before);
+      found = kept_after es p (i - 1) (omega (arith, before)) ∙ (ap (slice_get es) next ∙ (at.found ∙ other_found es p n i a l at (eq_above n g.row.number (omega (arith, below, f.number)))));
+    }
+
+place_before : (es : List Entry) (p n i : ℕ) → is_ascending number_of es ≡ true → (l : p < length es) → IsAt number_of n es i → i < p → IsAt number_of n (remove es p) i
+place_before es p n i a l at before =
+    let f = row_found number_of n es i at in
+    let g = there es p l in
+    let above : f.row.number < g.row.number = ascends es i p f.row g.row a before f.at g.is in
+    record {
+      within = omega (arith, shorter es p l, before, l);
+      found = kept_before es p i before ∙ (at.found ∙ other_found es p n i a l at (eq_below n g.row.number (omega (arith, above, f.number))));
+    }
+
+placed_at : (es : List Entry) (p n i : ℕ) → is_ascending number_of es ≡ true → p < length es → IsAt number_of n es i → (b : Bool) → (p == i) ≡ b → (c : Bool) → nat_lt p i ≡ c → MatchOption (cond b None (cond c (Some (i - 1)) (Some i))) (has_row number_of n (remove es p) ≡ false) (IsAt number_of n (remove es p))
+placed_at es p n i a l at true e c h =
+    ap (λ j. has_row number_of n (remove es j)) (eq_is p i e) ∙ (ap (has_row number_of n) (remove_found number_of n es i a at) ∙ has_row-without number_of n es)
+placed_at es p n i a l at false e true h = place_later es p n i a l at (lt_is p i h)
+placed_at es p n i a l at false e false h =
+    let most : i ≤ p = ge_is p i h in
+    place_before es p n i a l at (elim (cases_eq p i) [ inl same ↦ absurd (at_own same) | inr other ↦ omega (arith, most, other) ])
+  where
+    at_own : p ≡ i → ⊥
+    at_own same = clash (p == i) (eq_test p i same) e
+
+pub placed : (gone : Option ℕ) (es : List Entry) (n i : ℕ) → is_ascending number_of es ≡ true → Within gone es → IsAt number_of n es i → MatchOption (place_among gone i) (has_row number_of n (living gone es) ≡ false) (IsAt number_of n (living gone es))
+placed None es n i a l at = at
+placed (Some p) es n i a l at = placed_at es p n i a l at (p == i) refl (nat_lt p i) refl
+
+pub absent_too : (gone : Option ℕ) (es : List Entry) (n : ℕ) → is_ascending number_of es ≡ true → Within gone es → has_row number_of n es ≡ false → has_row number_of n (living gone es) ≡ false
+absent_too None es n a l absent = absent
+absent_too (Some p) es n a l absent =
+    let k : ℕ = number_at es p l in
+    ap (has_row number_of n) (less_own es p a l)
+    ∙ elim (cases_eq n k) [
+      | inl same ↦ ap (λ m. has_row number_of m (without_row number_of k es)) same ∙ has_row-without number_of k es
+      | inr other ↦ has_row-without_other number_of k n es (is_apart n k other) ∙ absent
+    ]
+
+-- ---- entries that come and go
+-- one takes the place of the one that had its number
+pub filled : (es : List Entry) (p : ℕ) (r e : Entry) → is_ascending number_of es ≡ true → slice_get es p ≡ Some r → r.number ≡ e.number → slice_set es p e ≡ with_row number_of e (remove es p)
+filled [] p r e a h same = cc
+filled (x ∷ []) zero r e a h same = refl
+filled (x ∷ y ∷ es) zero r e a h same =
+    let first : x.number ≡ e.number = ap number_of (same_Some x r h) ∙ same in
+    let above : x.number < y.number = lt_is x.number y.number (parts number_of x (y ∷ es) a).above in
+    sym (ap (λ b. cond b (e ∷ y ∷ es) (y ∷ with_row number_of e es)) (lt_test e.number y.number (omega (arith, first, above))))
+filled (x ∷ es) (suc p) r e a h same =
+    let below : x.number < r.number = later_above number_of x es p r a h in
+    ap (λ ys. x ∷ ys) (filled es p r e (ascending_tail number_of x es a) h same)
+    ∙ sym (ap (λ b. cond b (e ∷ x ∷ remove es p) (x ∷ with_row number_of e (remove es p))) (not_lt e.number x.number (omega (arith, below, same))))
+
+pub order_more : (es : List Entry) (gone : Option ℕ) (room capacity new : ℕ) (e : Entry) → IsOrder es gone room capacity → has_row number_of e.number (living gone es) ≡ false → length (living gone es) < room → e.slot < 65535 → capacity ≤ new → IsOrder (with_row number_of e (living gone es)) None room new
+order_more es gone room capacity new e is free fits small up =
+    let held = held_more (indexed (living gone es) room) e is.held free fits small in
+    record { held = held; ascending = held.ascending; there = tt; memory = omega (arith, is.memory, up) }
+
+pub order_less : (es : List Entry) (gone : Option ℕ) (room capacity n p : ℕ) → IsOrder es gone room capacity → IsAt number_of n (living gone es) p → IsOrder (living gone es) (Some p) room capacity
+order_less es gone room capacity n p is at =
+    let rest = remove_found number_of n (living gone es) p is.held.ascending at in
+    record {
+      held = subst (λ (l : List Entry). AreIndexed (indexed l room)) (sym rest) (held_less (indexed (living gone es) room) n is.held);
+      ascending = is.held.ascending;
+      there = at.within;
+      memory = is.memory;
+    }

@@ -37,8 +37,7 @@ pub record AreIndexed (it : Indexed) : Type 0 where
   pub room_small : it.room < 65536
 
 -- what is noted of each number below the bound tells whether it is there, and its slot
-pub record IsIndex (it : Indexed) (notes : List ℕ) (bound capacity : ℕ) : Type 0 where
+pub record IsIndex (it : Indexed) (notes : List ℕ) (bound : ℕ) : Type 0 where
   pub held : AreIndexed it
-  pub memory : it.room ≤ capacity
   pub within : length notes ≤ bound
   pub told : (n : ℕ) → n < bound → slice_index_or notes n 65535 ≡ noted (row_of number_of n it.entries)

@@ -7,9 +7,8 @@ ghost use Rattle.fsrm_base.specs.Places.{IsAt};
 ghost use Rattle.row_table.specs.Indexed.{AreIndexed, noted, number_of, slot_in};
 
 use crate::notes::{NO_SLOT, cover, write};
-use crate::order;
+use crate::order::Order;
 use fsrm_base::NoMemory;
-use fsrm_base::places::{Key, free_number, gap, search};
 use std::alloc::Global;
 use std::marker::Model;
 
@@ -24,40 +23,23 @@ pub struct Entry {
     pub slot: u16,
 }
 
-// Entries go by their numbers.
-struct ByNumber;
-
-impl Key for ByNumber {
-    ghost use Rattle.row_table.specs.Indexed.{number_of};
-
-    type Row = Entry;
-
-    ghost key = { number_of };
-
-    fn number(row: &Entry) -> u32 {
-        row.number
-    }
-}
-
 /// Numbers, each with its slot. Contracts see them as entries that ascend by number, and for how many there is memory.
 #[derive(Drop)]
 pub struct Index {
-    order: Vec<Entry>,
+    order: Order,
     notes: Vec<u16>,
     // The numbers from here on have no notes.
     bound: u32,
-    room: u32,
 }
 
 impl Model for Index {
-    ghost use Rattle.std.specs.Vec.{vec_capacity};
     ghost use Rattle.row_table.specs.Indexed.{Indexed, IsIndex};
 
     ghost Value = { Indexed };
 
-    ghost view = { λ i. record { entries = i.order.items; room = i.room } };
+    ghost view = { λ i. i.order };
 
-    ghost invariant = { λ i. IsIndex (record { entries = i.order.items; room = i.room }) i.notes.items i.bound (vec_capacity i.order) };
+    ghost invariant = { λ i. IsIndex i.order i.notes.items i.bound };
 }
 
 impl Index {
@@ -66,10 +48,9 @@ impl Index {
         ensures { result ≡ record { entries = []; room = 0 } }
     {
         Index {
-            order: Vec::new(alloc),
+            order: Order::new(alloc),
             notes: Vec::new(alloc),
             bound: NOTED,
-            room: 0,
         }
     }
 
@@ -80,10 +61,7 @@ impl Index {
         ensures err { OnErr result (self.new ≡ self.old) }
         ensures full { OnErr result (self.old.room < room) }
     {
-        let more = (room as usize).saturating_sub(self.order.len());
-        self.order.reserve(more)?;
-        self.room = self.room.max(room);
-        Ok(())
+        self.order.reserve(room)
     }
 
     /// What is noted of a number: its slot, or `NO_SLOT` if it isn't there.
@@ -105,9 +83,9 @@ impl Index {
     fn searched(&self, number: u32) -> u16
         ensures { result ≡ noted (row_of number_of number self.now.entries) }
     {
-        match search::<ByNumber>(&self.order, number) {
-            Ok(place) => self.order[place].slot,
-            Err(_) => NO_SLOT,
+        match self.order.place(number) {
+            Some(place) => self.order.at(place).slot,
+            None => NO_SLOT,
         }
     }
 
@@ -115,9 +93,9 @@ impl Index {
     pub fn place(&self, number: u32) -> Option<u32>
         ensures { MatchOption result (has_row number_of number self.now.entries ≡ false) (IsAt number_of number self.now.entries) }
     {
-        match search::<ByNumber>(&self.order, number) {
-            Ok(place) => Some(place as u32),
-            Err(_) => None,
+        match self.order.place(number) {
+            Some(place) => Some(place as u32),
+            None => None,
         }
     }
 
@@ -130,8 +108,7 @@ impl Index {
         ensures { self.new ≡ record self.old { entries = with_row number_of entry self.old.entries } }
     {
         self.bound = cover(&mut self.notes, entry.number, self.bound);
-        let place = gap::<ByNumber>(&self.order, entry.number);
-        order::insert(&mut self.order, place, entry);
+        self.order.insert(entry);
         write(&mut self.notes, entry.number, entry.slot);
     }
 
@@ -141,10 +118,8 @@ impl Index {
         ensures rest { self.new ≡ record self.old { entries = without_row number_of number self.old.entries } }
         ensures slot { slot_in self.old.entries number ≡ Some result }
     {
-        let place = search::<ByNumber>(&self.order, number).unwrap();
-        let entry = order::remove(&mut self.order, place);
         write(&mut self.notes, number, NO_SLOT);
-        entry.slot
+        self.order.remove(number)
     }
 
     /// The entry at a place, from 0, in the order of the numbers.
@@ -152,7 +127,7 @@ impl Index {
         requires { place < length self.now.entries }
         ensures { slice_get self.now.entries place ≡ Some result }
     {
-        self.order[place as usize]
+        self.order.at(place as usize)
     }
 
     /// How many numbers there are. `kept` says how they are held.
@@ -167,6 +142,12 @@ impl Index {
     pub fn free_number(&self) -> u32
         ensures { result ≡ least_free number_of self.now.entries }
     {
-        free_number::<ByNumber>(&self.order)
+        let count = self.len();
+        for place in 0..count {
+            if self.at(place).number != place {
+                return place;
+            }
+        }
+        count
     }
 }

@@ -1,7 +1,7 @@
 use Rattle.std.proofs.Common.{◌∙◌, ◌-◌, ◌<◌, ap, arith, length}
 use Rattle.std.specs.List.{remove}
 use Rattle.row_table.proofs.OrderLaws.{cut}
-use Rattle.row_table.proofs.order.remove.Goals as goal
+use Rattle.row_table.proofs.order.cut.Goals as goal
 
 pub returns-clause-rest : goal.returns-clause-rest
 returns-clause-rest c =
