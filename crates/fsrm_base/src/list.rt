@@ -98,10 +98,11 @@ impl<T: Drop> List<T> {
 
 impl<T: Duplicate> Duplicate for List<T> {
     fn copy(&self, alloc: Global) -> Result<Self, NoMemory> {
-        let mut copy = List::new(alloc);
+        // Copies stand for long and seldom grow, so they have no room beyond their items.
+        let mut inner = Vec::with_capacity(alloc, self.inner.len())?;
         for item in &self.inner {
-            copy.push(item.copy(alloc)?)?;
+            inner.push_reserved(item.copy(alloc)?);
         }
-        Ok(copy)
+        Ok(List { inner })
     }
 }
