@@ -12,8 +12,8 @@ use fsrm_base::NoMemory;
 use std::alloc::Global;
 use std::marker::Model;
 
-// A number below this one has a note, so long as there is memory for it, and no volume has more nodes. The notes never
-// take more than 2 MB.
+// A number below this one has a note, so long as there is memory for it, and no volume has more nodes. So at most
+// 2 MB of notes are written, and since they grow by doubling, less than twice that is taken for them.
 const NOTED: u32 = 1_048_576;
 
 /// The slot of a number.

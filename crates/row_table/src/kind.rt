@@ -21,7 +21,7 @@ pub trait Kind: Key<Row: Drop> {
         requires { bytes row.now ≤ most_bytes }
         ensures { result ≡ bytes row.now };
 
-    // A slot and one more fit a u16.
+    // Slots fit a u16, and 65,535 is left to stand for no slot.
     ghost few: { MOST < 2 ^ 16 };
 
     // The bytes of all texts fit a u32.

@@ -1,4 +1,4 @@
-//! Which quotas a template's change reaches.
+//! Which quotas a template's change reaches, and which of them have its thresholds already.
 
 ghost use Rattle.std.specs.Prelude.{◌≡◌};
 ghost use Rattle.std.specs.Cmp.Lexicographic.{pointwise};

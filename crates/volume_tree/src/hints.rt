@@ -76,7 +76,8 @@ fn name_hash(name: &str) -> u64 {
             for word in words {
                 hash = stir(hash, u64::from_le_bytes(*word));
             }
-            // Names mostly differ at their ends, but a product has a bit of a word only from that bit on.
+            // Names mostly differ at their ends, which are the upper bits of the last word. Such a bit changes a product
+            // from that bit on alone, and places go by lower bits: so the upper half is brought down, too.
             let last = u64::from_le_bytes(*last);
             stir(hash, last ^ last >> 32)
         }
