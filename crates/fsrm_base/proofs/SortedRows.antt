@@ -1,5 +1,5 @@
 -- Ascending rows: what a search by halves finds, and what an edit at that place makes.
-use Rattle.std.proofs.Common.{◌≡◌, ℕ, zero, suc, ◌<◌, ◌≤◌, ◌==◌, Bool, true, false, cond, not, ◌||◌, List, [], ◌∷◌, length, get_or, insert, remove, Some, None, Option, Result, Ok, Err, IfOk, IfErr, refl, sym, ◌∙◌, ap, subst, arith, tests}
+use Rattle.std.proofs.Common.{◌≡◌, ℕ, zero, suc, ◌<◌, ◌≤◌, ◌==◌, true, false, cond, not, ◌||◌, List, [], ◌∷◌, length, get_or, insert, remove, Some, None, Option, Result, Ok, Err, IfOk, IfErr, refl, sym, ◌∙◌, ap, subst, arith, tests}
 use Rattle.std.proofs.lemmas.Cmp.{ranked}
 use Rattle.std.proofs.lemmas.Option.{same_Some, slice_get-get_or, slice_get_within, get_or_from_slice_get}
 use Rattle.std.specs.List.Sorted.{IsSearchInRange, IsBinarySearchResult, IsNonDecreasingBy}
@@ -10,8 +10,8 @@ use Rattle.std.specs.Prelude.{slice_get, slice_set, is_some}
 use Rattle.fsrm_base.specs.Keyed.{row_of, has_row, with_row, with_change, without_row, is_ascending}
 use Rattle.fsrm_base.proofs.EditedRows.{absent_later, ascending_tail, change_absent, without_absent}
 use Rattle.fsrm_base.proofs.Look.{FoundRow, found_key, found_has, is_some-find}
-use Rattle.fsrm_base.proofs.Order.{parts, ascending-map, ascending-with_row, ascending-filter}
-use Rattle.fsrm_base.proofs.TestLaws.{eq_is, lt_is, lt_test, eq_test, eq_below, eq_above, not_lt}
+use Rattle.fsrm_base.proofs.Order.{parts, ascending-filter}
+use Rattle.fsrm_base.proofs.TestLaws.{lt_is, lt_test, eq_test, eq_below, eq_above, not_lt}
 use Rattle.fsrm_base.specs.Places.{IsAt, IsGap}
 
 -- a later row's number is greater
@@ -156,31 +156,12 @@ row_found key n rows p at =
     let is : row_of key n rows ≡ Some f.row = sym at.found ∙ f.is in
     record { row = f.row; at = f.is; number = found_key key n rows f.row is; has = found_has key n rows f.row is }
 
-pub set_found : {X : Type 0} (key : X → ℕ) (n : ℕ) (c : X → X) (rows : List X) (p : ℕ) (r : X) → is_ascending key rows ≡ true → IsAt key n rows p → r ≡ get_or rows p r → slice_set rows p (c r) ≡ with_change key n c rows
-set_found key n c rows p r a at read =
-    let f = row_found key n rows p at in
-    let is : r ≡ f.row = read ∙ get_or_from_slice_get rows p f.row r f.at in
-    ap (λ y. slice_set rows p (c y)) is ∙ set_row key n c rows p f.row a f.at f.number
-
 pub remove_found : {X : Type 0} (key : X → ℕ) (n : ℕ) (rows : List X) (p : ℕ) → is_ascending key rows ≡ true → IsAt key n rows p → remove rows p ≡ without_row key n rows
 remove_found key n rows p a at =
     let f = row_found key n rows p at in
     remove_row key n rows p f.row a f.at f.number
 
--- what was edited at the place that was found ascends
-changed_at : {X : Type 0} (key : X → ℕ) (n : ℕ) (c : X → X) → ((r : X) → key r ≡ n → key (c r) ≡ n) → (b : Bool) (r : X) → (key r == n) ≡ b → key (cond b (c r) r) ≡ key r
-changed_at key n c k true r e = let is : key r ≡ n = eq_is (key r) n e in k r is ∙ sym is
-changed_at key n c k false r e = refl
-
-pub ascending-set : {X : Type 0} (key : X → ℕ) (n : ℕ) (c : X → X) (rows : List X) (p : ℕ) (r : X) → ((row : X) → key row ≡ n → key (c row) ≡ n) → is_ascending key rows ≡ true → IsAt key n rows p → r ≡ get_or rows p r → is_ascending key (slice_set rows p (c r)) ≡ true
-ascending-set key n c rows p r k a at read =
-    ap (is_ascending key) (set_found key n c rows p r a at read)
-    ∙ ascending-map key (λ row. cond (key row == n) (c row) row) (λ row. changed_at key n c k (key row == n) row refl) rows a
-
-pub ascending-insert : {X : Type 0} (key : X → ℕ) (row : X) (rows : List X) (p : ℕ) → is_ascending key rows ≡ true → IsGap key (key row) rows p → is_ascending key (insert rows p row) ≡ true
-ascending-insert key row rows p a gap =
-    ap (is_ascending key) (insert_row key row rows p gap) ∙ ascending-with_row key row rows gap.absent a
-
+-- the rows ascend without the one that was found
 pub ascending-remove : {X : Type 0} (key : X → ℕ) (n : ℕ) (rows : List X) (p : ℕ) → is_ascending key rows ≡ true → IsAt key n rows p → is_ascending key (remove rows p) ≡ true
 ascending-remove key n rows p a at =
     ap (is_ascending key) (remove_found key n rows p a at) ∙ ascending-filter key _ rows a
