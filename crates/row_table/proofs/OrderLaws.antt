@@ -3,7 +3,7 @@ use Rattle.std.proofs.Common.{◌≡◌, ℕ, zero, suc, ◌+◌, ◌-◌, ◌<�
 use Rattle.std.proofs.Math.Seq.{take-append-add}
 use Rattle.std.proofs.lemmas.List.{drop-drop, length-drop, length-take-le, take-append-le, take-take, take_rest}
 use Rattle.std.proofs.lemmas.Bool.{cases_eq}
-use Rattle.std.proofs.lemmas.Option.{same_Some}
+use Rattle.std.proofs.lemmas.Option.{same_Some, slice_get_within}
 use Rattle.std.specs.List.{remove}
 use Rattle.fsrm_base.specs.Keyed.{has_row, is_ascending, row_of, with_row, without_row}
 use Rattle.fsrm_base.specs.Places.{IsAt}
@@ -44,10 +44,15 @@ Within gone es = IfSome gone (λ place. place < length es)
 abbrev number_at : (es : List Entry) (p : ℕ) → p < length es → ℕ
 number_at es p l = (there es p l).row.number
 
+-- one stands at the place of its number
+pub at_number : (es : List Entry) (n p : ℕ) (e : Entry) → is_ascending number_of es ≡ true → slice_get es p ≡ Some e → e.number ≡ n → IsAt number_of n es p
+at_number es n p e a at same =
+    record { within = slice_get_within es p e at; found = at ∙ sym (row_at number_of n es p e a at same) }
+
 own_place : (es : List Entry) (p : ℕ) → is_ascending number_of es ≡ true → (l : p < length es) → IsAt number_of (number_at es p l) es p
 own_place es p a l =
     let f = there es p l in
-    record { within = l; found = f.is ∙ sym (row_at number_of f.row.number es p f.row a f.is refl) }
+    at_number es f.row.number p f.row a f.is refl
 
 less_own : (es : List Entry) (p : ℕ) → is_ascending number_of es ≡ true → (l : p < length es) → remove es p ≡ without_row number_of (number_at es p l) es
 less_own es p a l = remove_found number_of (number_at es p l) es p a (own_place es p a l)

@@ -129,6 +129,32 @@ fn put(order: &mut Vec<Entry>, gone: Option<usize>, entry: Entry)
     }
 }
 
+// The place of a number if, from the first one on, none is missing below it.
+fn guess(order: &[Entry], number: u32) -> Option<usize>
+    requires { is_ascending number_of order.now ≡ true }
+    ensures { IfSome result (IsAt number_of number order.now) }
+{
+    let first = order.first()?;
+    let place = number.wrapping_sub(first.number) as usize;
+    let entry = order.get(place)?;
+    if entry.number == number {
+        return Some(place);
+    }
+    None
+}
+
+// The place of a number that is there. It is mostly as guessed, since numbers mostly follow one another.
+fn find(order: &[Entry], number: u32) -> usize
+    requires ascending { is_ascending number_of order.now ≡ true }
+    requires there { has_row number_of number order.now ≡ true }
+    ensures { IsAt number_of number order.now result }
+{
+    match guess(order, number) {
+        Some(place) => place,
+        None => search::<ByNumber>(order, number).unwrap(),
+    }
+}
+
 // Where the entry at a place among those that are there stands.
 fn place_in(gone: Option<usize>, place: usize) -> usize
     requires { place < 65535 }
@@ -244,7 +270,7 @@ impl Order {
         ensures slot { slot_in self.old.entries number ≡ Some result }
     {
         close(&mut self.entries, self.gone);
-        let place = search::<ByNumber>(&self.entries, number).unwrap();
+        let place = find(&self.entries, number);
         self.gone = Some(place);
         self.entries[place].slot
     }

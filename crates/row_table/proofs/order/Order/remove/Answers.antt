@@ -14,23 +14,23 @@ use Rattle.row_table.proofs.order.Order.remove.Goals as goal
 pub invariant_of-self : goal.invariant_of-self
 invariant_of-self c =
     let o = c.self.inside in
-    let at = rw (c.deref.ensures.value, c.close.ensures.rest) at (rw c.unwrap-place.ensures at c.search.ensures.found) in
-    rw (c.close.ensures.rest, c.close.ensures.capacity) (order_less o.entries.items o.gone o.room (vec_capacity o.entries) c.args.number c.unwrap-place.result c.self.invariant at)
+    let at = rw (c.deref.ensures.value, c.close.ensures.rest) at c.find-place.ensures in
+    rw (c.close.ensures.rest, c.close.ensures.capacity) (order_less o.entries.items o.gone o.room (vec_capacity o.entries) c.args.number c.find-place.result c.self.invariant at)
 
 pub returns-clause-rest : goal.returns-clause-rest
 returns-clause-rest c =
     let o = c.self.inside in
     let there = living o.gone o.entries.items in
-    let at = rw (c.deref.ensures.value, c.close.ensures.rest) at (rw c.unwrap-place.ensures at c.search.ensures.found) in
+    let at = rw (c.deref.ensures.value, c.close.ensures.rest) at c.find-place.ensures in
     rw c.close.ensures.rest
-    (ap (λ (l : List Entry). indexed l o.room) (remove_found number_of c.args.number there c.unwrap-place.result c.self.invariant.held.ascending at)
+    (ap (λ (l : List Entry). indexed l o.room) (remove_found number_of c.args.number there c.find-place.result c.self.invariant.held.ascending at)
     ∙ ap (λ (it : Indexed). indexed (without_row number_of c.args.number it.entries) it.room) c.self.view_is)
 
 pub returns-clause-slot : goal.returns-clause-slot
 returns-clause-slot c =
     let o = c.self.inside in
     let there = living o.gone o.entries.items in
-    let at = rw (c.deref.ensures.value, c.close.ensures.rest) at (rw c.unwrap-place.ensures at c.search.ensures.found) in
+    let at = rw (c.deref.ensures.value, c.close.ensures.rest) at c.find-place.ensures in
     let read = rw c.close.ensures.rest at c.index.ensures in
     ap (λ (it : Indexed). slot_in it.entries c.args.number) (sym c.self.view_is)
-    ∙ ap (option_map slot_of) (sym at.found ∙ (slice_get-get_or there c.unwrap-place.result c.index.result.now at.within ∙ ap Some (sym read)))
+    ∙ ap (option_map slot_of) (sym at.found ∙ (slice_get-get_or there c.find-place.result c.index.result.now at.within ∙ ap Some (sym read)))
