@@ -21,6 +21,8 @@ use Rattle.number_set.specs.Numbers.{Numbers, no_numbers}
 use Rattle.quota_usage.specs.declared.change.Change.{Change}
 use Rattle.quota_usage.specs.declared.change.Counter.{Counter}
 use Rattle.quota_usage.specs.Charge.{charged as charged_bytes, charged_counter, is_above, lost_by}
+use Rattle.quota_usage.specs.Climb.{climbed_from}
+use Rattle.quota_usage.proofs.ChargeLaws.{left_from}
 use Rattle.thresholds.specs.Marked.{Marked}
 use Rattle.thresholds.specs.Settled.{Settles, are_orderly, crosses, has_orderly_lists}
 use Rattle.thresholds.proofs.OrderLaws.{orderly}
@@ -130,10 +132,13 @@ module _ (nodes : List NodeRow) (counters : List Counter) (change : Change) (to 
       (λ i q there t. others_none nodes counters change to h.gives covered q run_limit m (sym (test_at i q there) ∙ t))
 
 -- ---- the whole charge
--- what its steps left: counters, quotas whose peaks were raised, places that were noted, and those of them that are left
-module _ (p mid : Parts) (change : Change) (to minus m : ℕ) (counters : List Counter) (tables : Tables) (noted : Numbers) (gives : change.to ≡ Some to) (loses : minus ≡ lost_by change to) (idle : IsCalm p) (made : counters ≡ map (charged_counter p.tree.nodes change) p.usage) (raising : tables ≡ record p.objects { quotas = map (raised_above p.tree.nodes (Some to) counters m) p.objects.quotas }) (notes : Notes p.crossing noted p.objects.quotas (λ q. is_under p.tree.nodes q.folder to && is_crossing counters minus change.plus q)) (kept : mid ≡ record (record p { usage = counters; objects = tables; crossing = noted }) { crossing = mid.crossing }) (drops : Drops noted mid.crossing tables.quotas (is_kept p.tree.nodes change to)) where
+-- what its steps left: counters that the bytes were taken from, and those after the climb, quotas whose peaks were raised, places that were noted, and those of them that are left
+module _ (p mid : Parts) (change : Change) (to minus m : ℕ) (taken counters : List Counter) (tables : Tables) (noted : Numbers) (gives : change.to ≡ Some to) (loses : minus ≡ lost_by change to) (idle : IsCalm p) (climbed : counters ≡ climbed_from p.tree.nodes (Some to) minus change.plus taken) (left : climbed_from p.tree.nodes change.to minus change.plus taken ≡ map (charged_counter p.tree.nodes change) p.usage) (raising : tables ≡ record p.objects { quotas = map (raised_above p.tree.nodes (Some to) counters m) p.objects.quotas }) (notes : Notes p.crossing noted p.objects.quotas (λ q. is_under p.tree.nodes q.folder to && is_crossing counters minus change.plus q)) (kept : mid ≡ record (record p { usage = counters; objects = tables; crossing = noted }) { crossing = mid.crossing }) (drops : Drops noted mid.crossing tables.quotas (is_kept p.tree.nodes change to)) where
   abbrev charged : Parts
   charged = charged_parts p change m
+
+  made : counters ≡ map (charged_counter p.tree.nodes change) p.usage
+  made = climbed ∙ left_from p.tree.nodes change (Some to) minus taken _ gives left
 
   known : Noted p.tree.nodes p.usage change to m p.objects.quotas tables.quotas p.crossing noted mid.crossing
   known =

@@ -31,9 +31,8 @@ settle_noted-requires-clause-noted g c =
     let change = c.args.change.now in
     let taken = c.take-minus in
     let up = c.gain_above in
-    let made = up.ensures.counted ∙ left_from p.tree.nodes change (Some c.in-Some.to) taken.result taken.new.self _ c.in-Some.is taken.ensures.left in
-    still_set p c.drop_kept.new.self change c.in-Some.to taken.result c.args.moment up.new.usage up.new.objects up.new.crossing
-    c.in-Some.is (taken.ensures.lost c.in-Some.to c.in-Some.is) c.requires.calm made up.ensures.quotas up.ensures.noted c.drop_kept.ensures.kept c.drop_kept.ensures.dropped
+    still_set p c.drop_kept.new.self change c.in-Some.to taken.result c.args.moment taken.new.self up.new.usage up.new.objects up.new.crossing
+    c.in-Some.is (taken.ensures.lost c.in-Some.to c.in-Some.is) c.requires.calm up.ensures.counted taken.ensures.left up.ensures.quotas up.ensures.noted c.drop_kept.ensures.kept c.drop_kept.ensures.dropped
 
 pub settle_noted-requires-clause-within : goal.settle_noted-requires-clause-within
 settle_noted-requires-clause-within g c =
@@ -41,9 +40,8 @@ settle_noted-requires-clause-within g c =
     let change = c.args.change.now in
     let taken = c.take-minus in
     let up = c.gain_above in
-    let made = up.ensures.counted ∙ left_from p.tree.nodes change (Some c.in-Some.to) taken.result taken.new.self _ c.in-Some.is taken.ensures.left in
-    still_within p c.drop_kept.new.self change c.in-Some.to taken.result c.args.moment up.new.usage up.new.objects up.new.crossing
-    c.in-Some.is (taken.ensures.lost c.in-Some.to c.in-Some.is) c.requires.calm made up.ensures.quotas up.ensures.noted c.drop_kept.ensures.kept c.drop_kept.ensures.dropped
+    still_within p c.drop_kept.new.self change c.in-Some.to taken.result c.args.moment taken.new.self up.new.usage up.new.objects up.new.crossing
+    c.in-Some.is (taken.ensures.lost c.in-Some.to c.in-Some.is) c.requires.calm up.ensures.counted taken.ensures.left up.ensures.quotas up.ensures.noted c.drop_kept.ensures.kept c.drop_kept.ensures.dropped
 
 pub returns-clause-charged : goal.returns-clause-charged
 returns-clause-charged g c =
@@ -51,7 +49,6 @@ returns-clause-charged g c =
     let change = c.args.change.now in
     let taken = c.take-minus in
     let up = c.gain_above in
-    let made = up.ensures.counted ∙ left_from p.tree.nodes change (Some c.in-Some.to) taken.result taken.new.self _ c.in-Some.is taken.ensures.left in
-    charge_ran p c.drop_kept.new.self change c.in-Some.to taken.result c.args.moment up.new.usage up.new.objects up.new.crossing
-    c.in-Some.is (taken.ensures.lost c.in-Some.to c.in-Some.is) c.requires.calm made up.ensures.quotas up.ensures.noted c.drop_kept.ensures.kept c.drop_kept.ensures.dropped
+    charge_ran p c.drop_kept.new.self change c.in-Some.to taken.result c.args.moment taken.new.self up.new.usage up.new.objects up.new.crossing
+    c.in-Some.is (taken.ensures.lost c.in-Some.to c.in-Some.is) c.requires.calm up.ensures.counted taken.ensures.left up.ensures.quotas up.ensures.noted c.drop_kept.ensures.kept c.drop_kept.ensures.dropped
     c.settle_noted.new.objects c.settle_noted.new.marks c.settle_noted.new.crossing c.requires.covered c.settle_noted.ensures.settled c.settle_noted.ensures.sorted c.settle_noted.ensures.none
