@@ -26,6 +26,15 @@ pub enum Task {
     End { place: u32, before: u64 },
 }
 
+// A walk through folders: where the last visit ended, the folders that it found, until they are put among the tasks, and
+// these tasks, of which the last is the next.
+#[derive(Drop)]
+struct Walk {
+    finger: Finger,
+    folders: Vec<u32>,
+    tasks: Vec<Task>,
+}
+
 /// What the folder of each quota uses, in the order of the quotas. A walk through the whole tree passes each folder once:
 /// what it counts between a quota's folder and the end of what is below is the quota's sum, however many quotas stand
 /// one below another. It takes no more than 3 looks for each node.
@@ -42,47 +51,48 @@ pub fn quota_sums<L: Ledger>(
     ensures looks { steps.new ≤ steps.old + 3 * length tree.now.nodes }
 {
     let mut sums = vec![in alloc; 0u64; objects.quota_count() as usize]?;
+    let mut walk = walk_from_root(alloc)?;
+    sum_all(tree, objects, &mut walk, &mut sums, steps)?;
+    Ok(sums)
+}
+
+// A walk that is to visit the root.
+fn walk_from_root(alloc: Global) -> Result<Walk, NoMemory>
+    ensures tasks { IfOk result (λ walk. walk.tasks.items ≡ Visit 0 ∷ []) }
+    ensures none { IfOk result (λ walk. walk.folders.items ≡ []) }
+{
     let mut tasks = Vec::new(alloc);
     tasks.push(Task::Visit { folder: 0 })?;
-    let mut folders = Vec::new(alloc);
-    sum_all(tree, objects, &mut tasks, &mut folders, &mut sums, steps)?;
-    Ok(sums)
+    Ok(Walk {
+        finger: Finger::default(),
+        folders: Vec::new(alloc),
+        tasks,
+    })
 }
 
 // Does all tasks, at first the visit of the root.
 fn sum_all<L: Ledger>(
     tree: &Tree,
     objects: &Objects,
-    tasks: &mut Vec<Task>,
-    folders: &mut Vec<u32>,
+    walk: &mut Walk,
     sums: &mut [u64],
     steps: &mut Steps<L>,
 ) -> Result<(), NoMemory>
     requires volume { IsVolume tree.now.size tree.now.nodes }
     requires legal { is_capacity tree.now.size ≡ true }
     requires quotas { AreQuotas tree.now.nodes objects.now.quotas }
-    requires tasks { tasks.old.items ≡ Visit 0 ∷ [] }
-    requires none { folders.old.items ≡ [] }
+    requires tasks { walk.old.tasks.items ≡ Visit 0 ∷ [] }
+    requires none { walk.old.folders.items ≡ [] }
     requires size { length sums.old ≡ length objects.now.quotas }
     ensures sums { OnOk result (sums.new ≡ map (λ quota. usage tree.now.size tree.now.nodes quota.folder) objects.now.quotas) }
     ensures looks { steps.new ≤ steps.old + 3 * length (under tree.now.nodes 0) }
 {
-    let mut finger = Finger::default();
     let mut total = 0u64;
-    while let Some(task) = tasks.pop() {
+    while let Some(task) = walk.tasks.pop() {
         match task {
             Task::End { place, before } => end_sum(sums, place, before, total),
             Task::Visit { folder } => {
-                total += enter(
-                    tree,
-                    objects,
-                    folder,
-                    total,
-                    &mut finger,
-                    folders,
-                    tasks,
-                    steps,
-                )?;
+                total += enter(tree, objects, folder, total, walk, steps)?;
             }
         }
     }
@@ -105,23 +115,21 @@ fn enter<L: Ledger>(
     objects: &Objects,
     folder: u32,
     total: u64,
-    finger: &mut Finger,
-    folders: &mut Vec<u32>,
-    tasks: &mut Vec<Task>,
+    walk: &mut Walk,
     steps: &mut Steps<L>,
 ) -> Result<u64, NoMemory>
     requires volume { IsVolume tree.now.size tree.now.nodes }
     requires legal { is_capacity tree.now.size ≡ true }
-    requires none { folders.old.items ≡ [] }
-    ensures none { OnOk result (folders.new.items ≡ []) }
+    requires none { walk.old.folders.items ≡ [] }
+    ensures none { OnOk result (walk.new.folders.items ≡ []) }
     ensures sum { IfOk result (λ bytes. bytes ≡ sum_by (space_of tree.now.size tree.now.nodes) (map key (children_in_order tree.now.nodes folder))) }
-    ensures tasks { OnOk result (Enters objects.now.quotas tree.now.nodes folder total tasks.old.items tasks.new.items) }
+    ensures tasks { OnOk result (Enters objects.now.quotas tree.now.nodes folder total walk.old.tasks.items walk.new.tasks.items) }
     ensures count { OnOk result (steps.new ≡ steps.old + (1 + 2 * length (map key (children_in_order tree.now.nodes folder)))) }
     ensures looks { steps.new ≤ steps.old + (1 + 2 * length (map key (children_in_order tree.now.nodes folder))) }
 {
-    put_end(objects, folder, total, tasks)?;
-    let bytes = visit(tree, folder, finger, folders, steps)?;
-    put_visits(folders, tasks)?;
+    put_end(objects, folder, total, &mut walk.tasks)?;
+    let bytes = visit(tree, folder, &mut walk.finger, &mut walk.folders, steps)?;
+    put_visits(&mut walk.folders, &mut walk.tasks)?;
     Ok(bytes)
 }
 

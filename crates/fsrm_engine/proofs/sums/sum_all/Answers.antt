@@ -35,20 +35,20 @@ pub end_sum-requires-clause-low : goal.end_sum-requires-clause-low
 end_sum-requires-clause-low g c =
     let rest = c.pop.new.self.items in
     let last = c.in-Some.ensures.items ∙ ap (λ (t : Task). rest ++ t ∷ []) c.in-End.is in
-    let e = ended c.args.tree.now.size c.args.tree.now.nodes c.args.objects.now.quotas c.loop-task.tasks.items rest c.loop-task.sums c.loop-task.total c.in-End.place c.in-End.before last c.loop-task.invariant.due in
+    let e = ended c.args.tree.now.size c.args.tree.now.nodes c.args.objects.now.quotas c.loop-task.walk.tasks.items rest c.loop-task.sums c.loop-task.total c.in-End.place c.in-End.before last c.loop-task.invariant.due in
     omega (arith, e.low, c.loop-task.invariant.size)
 
 pub end_sum-requires-clause-before : goal.end_sum-requires-clause-before
 end_sum-requires-clause-before g c =
     let rest = c.pop.new.self.items in
     let last = c.in-Some.ensures.items ∙ ap (λ (t : Task). rest ++ t ∷ []) c.in-End.is in
-    (ended c.args.tree.now.size c.args.tree.now.nodes c.args.objects.now.quotas c.loop-task.tasks.items rest c.loop-task.sums c.loop-task.total c.in-End.place c.in-End.before last c.loop-task.invariant.due).before_least
+    (ended c.args.tree.now.size c.args.tree.now.nodes c.args.objects.now.quotas c.loop-task.walk.tasks.items rest c.loop-task.sums c.loop-task.total c.in-End.place c.in-End.before last c.loop-task.invariant.due).before_least
 
 pub loop-task-smaller-in-End : goal.loop-task-smaller-in-End
 loop-task-smaller-in-End g c =
     let nodes = c.args.tree.now.nodes in
     let rest = c.pop.new.self.items in
-    let tasks = c.loop-task.tasks.items in
+    let tasks = c.loop-task.walk.tasks.items in
     let last = c.in-Some.ensures.items ∙ ap (λ (t : Task). rest ++ t ∷ []) c.in-End.is in
     let e = ended c.args.tree.now.size nodes c.args.objects.now.quotas tasks rest c.loop-task.sums c.loop-task.total c.in-End.place c.in-End.before last c.loop-task.invariant.due in
     let less : 2 * under_all nodes (folders_of rest) + end_count rest < 2 * under_all nodes (folders_of tasks) + end_count tasks = omega (arith, ap (under_all nodes) e.folders, e.fewer) in
@@ -62,7 +62,7 @@ loop-task-preserved-in-End g c =
     let inv = c.loop-task.invariant in
     let rest = c.pop.new.self.items in
     let last = c.in-Some.ensures.items ∙ ap (λ (t : Task). rest ++ t ∷ []) c.in-End.is in
-    let e = ended K nodes quotas c.loop-task.tasks.items rest c.loop-task.sums c.loop-task.total c.in-End.place c.in-End.before last inv.due in
+    let e = ended K nodes quotas c.loop-task.walk.tasks.items rest c.loop-task.sums c.loop-task.total c.in-End.place c.in-End.before last inv.due in
     record {
       size = omega (arith, c.end_sum.auto.sums, inv.size);
       none = inv.none;
@@ -80,7 +80,7 @@ returns-in_err-total-in-Visit-clause-looks g c =
     let rest = c.pop.new.self.items in
     let n = c.in-Visit.folder in
     let last = c.in-Some.ensures.items ∙ ap (λ (t : Task). rest ++ t ∷ []) c.in-Visit.is in
-    looks_at_visit c.args.tree.now.size nodes (folders_of c.loop-task.tasks.items) (folders_of rest) n c.requires.volume c.loop-task.invariant.folders (ap folders_of last ∙ folders-append rest (Visit n ∷ []))
+    looks_at_visit c.args.tree.now.size nodes (folders_of c.loop-task.walk.tasks.items) (folders_of rest) n c.requires.volume c.loop-task.invariant.folders (ap folders_of last ∙ folders-append rest (Visit n ∷ []))
     c.args.steps.now (length (under nodes 0)) c.loop-task.steps c.enter.new.steps c.loop-task.invariant.looks c.enter.ensures.looks
 
 pub overflow_add-total : goal.overflow_add-total
@@ -94,7 +94,7 @@ overflow_add-total g c =
     let bytes = c.in_ok-total-in-Visit.field-0 in
     let last = c.in-Some.ensures.items ∙ ap (λ (t : Task). rest ++ t ∷ []) c.in-Visit.is in
     let enters = c.in_ok-total-in-Visit.ensures.tasks in
-    let visit = visited K nodes quotas c.requires.volume c.requires.quotas c.loop-task.tasks.items rest enters.mid c.enter.new.tasks.items n c.loop-task.sums c.loop-task.total bytes inv.folders last enters.ends enters.put c.in_ok-total-in-Visit.ensures.sum in
+    let visit = visited K nodes quotas c.requires.volume c.requires.quotas c.loop-task.walk.tasks.items rest enters.mid c.enter.new.walk.tasks.items n c.loop-task.sums c.loop-task.total bytes inv.folders last enters.ends enters.put c.in_ok-total-in-Visit.ensures.sum in
     let small : c.loop-task.total + bytes < 2 ^ 64 =
     omega (arith, visit.sum 0 inv.sum, filter_least (space K) (λ (node : NodeRow). is_under nodes 0 node.number) nodes, total_small K nodes c.requires.volume c.requires.legal) in
     omega (arith, small)
@@ -105,7 +105,7 @@ loop-task-smaller g c =
     let rest = c.pop.new.self.items in
     let last = c.in-Some.ensures.items ∙ ap (λ (t : Task). rest ++ t ∷ []) c.in-Visit.is in
     let enters = c.in_ok-total-in-Visit.ensures.tasks in
-    (visited c.args.tree.now.size c.args.tree.now.nodes c.args.objects.now.quotas c.requires.volume c.requires.quotas c.loop-task.tasks.items rest enters.mid c.enter.new.tasks.items c.in-Visit.folder c.loop-task.sums c.loop-task.total c.in_ok-total-in-Visit.field-0 inv.folders last enters.ends enters.put c.in_ok-total-in-Visit.ensures.sum).fewer
+    (visited c.args.tree.now.size c.args.tree.now.nodes c.args.objects.now.quotas c.requires.volume c.requires.quotas c.loop-task.walk.tasks.items rest enters.mid c.enter.new.walk.tasks.items c.in-Visit.folder c.loop-task.sums c.loop-task.total c.in_ok-total-in-Visit.field-0 inv.folders last enters.ends enters.put c.in_ok-total-in-Visit.ensures.sum).fewer
 
 pub loop-task-preserved : goal.loop-task-preserved
 loop-task-preserved g c =
@@ -115,7 +115,7 @@ loop-task-preserved g c =
     let rest = c.pop.new.self.items in
     let last = c.in-Some.ensures.items ∙ ap (λ (t : Task). rest ++ t ∷ []) c.in-Visit.is in
     let enters = c.in_ok-total-in-Visit.ensures.tasks in
-    let visit = visited K nodes c.args.objects.now.quotas c.requires.volume c.requires.quotas c.loop-task.tasks.items rest enters.mid c.enter.new.tasks.items c.in-Visit.folder c.loop-task.sums c.loop-task.total c.in_ok-total-in-Visit.field-0 inv.folders last enters.ends enters.put c.in_ok-total-in-Visit.ensures.sum in
+    let visit = visited K nodes c.args.objects.now.quotas c.requires.volume c.requires.quotas c.loop-task.walk.tasks.items rest enters.mid c.enter.new.walk.tasks.items c.in-Visit.folder c.loop-task.sums c.loop-task.total c.in_ok-total-in-Visit.field-0 inv.folders last enters.ends enters.put c.in_ok-total-in-Visit.ensures.sum in
     record {
       size = inv.size;
       none = c.in_ok-total-in-Visit.ensures.none;
@@ -132,5 +132,5 @@ returns-clause-sums g c =
     let nodes = c.args.tree.now.nodes in
     let quotas = c.args.objects.now.quotas in
     let inv = c.loop-task.invariant in
-    let none : c.loop-task.tasks.items ≡ [] = search rules in
+    let none : c.loop-task.walk.tasks.items ≡ [] = search rules in
     all_summed K nodes quotas c.loop-task.sums inv.size (subst (λ (ts : List Task). AreSummed K nodes quotas ts c.loop-task.sums) none inv.summed)
