@@ -1,5 +1,5 @@
 -- What a reader of pieces answers.
-use Rattle.std.proofs.Common.{◌≡◌, ◌≢◌, ℕ, ◌+◌, ◌-◌, ◌<◌, ◌≤◌, Bool, true, false, List, [], ◌∷◌, ◌++◌, length, take, drop, Option, Some, None, Ok, Err, refl, sym, ap, subst, ◌∙◌, append_assoc, arith, ◌⊎◌, inl, inr, eq-eqb}
+use Rattle.std.proofs.Common.{◌≡◌, ◌≢◌, ℕ, ◌+◌, ◌-◌, ◌<◌, ◌≤◌, Bool, true, false, List, [], ◌∷◌, ◌++◌, length, take, drop, Option, Some, None, Ok, Err, refl, sym, ap, subst, ◌∙◌, append_assoc, arith, ◌⊎◌, inl, inr}
 use Rattle.std.specs.Prelude.{◌==◌, ◌&&◌, nat_lt, Result, is_none, is_some}
 use Rattle.std.specs.Option.{unwrap_or}
 use Rattle.fsrm_base.proofs.TestLaws.{is_or, neither}
@@ -118,12 +118,6 @@ final_end now ended wrong =
       | inr other ↦ first_false (now.came + 0 == now.len) (length now.held.items == 0) (ne_eqb (now.came + 0) now.len (λ e. other (omega (arith, e))))
     ] in
     final_read now ended ∙ too_many (now.came + 0 == now.len) (now.came + 0) now.rows now.held.items fails ∙ ap (λ (n : ℕ). Err n) (omega arith)
-
-pub final_whole : (now : ImageIn) → Pauses now.section now.rows now.still now.held.items None → length now.held.items ≡ 0 → now.came ≡ now.len → outcome now [] ≡ Ok now.rows
-final_whole now ended none all =
-    let a : (now.came + 0 == now.len) ≡ true = eq-eqb _ _ (omega (arith, all)) in
-    let b : (length now.held.items == 0) ≡ true = eq-eqb _ _ none in
-    final_read now ended ∙ rw (a, b) refl
 
 -- ---- at first
 pub begins_so : (len : ℕ) (bytes : List ℕ) → of_length (0 + length bytes == len) (0 + length (take (len - 0) bytes)) (resume Start no_rows 1 ([] ++ take (len - 0) bytes)) ≡ image_in len bytes

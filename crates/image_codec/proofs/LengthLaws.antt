@@ -1,6 +1,6 @@
 -- How long spellings of rows are.
-use Rattle.std.proofs.Common.{◌≡◌, ℕ, ◌+◌, ◌*◌, ◌≤◌, ◌<◌, Bool, true, List, [], ◌∷◌, ◌++◌, length, take, Option, Some, None, refl, sym, ap, ◌∙◌, arith}
-use Rattle.std.specs.Prelude.{get_or, nat_le, ◌&&◌}
+use Rattle.std.proofs.Common.{◌≡◌, ℕ, ◌+◌, ◌*◌, ◌≤◌, ◌<◌, Bool, true, List, [], ◌∷◌, length, Option, Some, None, refl, ap, arith}
+use Rattle.std.specs.Prelude.{nat_le, ◌&&◌}
 use Rattle.std.proofs.Math.Nat.{mul-le-mul_right}
 use Rattle.std.proofs.lemmas.Bool.{leb-true}
 use Rattle.fsrm_base.proofs.TestLaws.{both}
@@ -9,8 +9,7 @@ use Rattle.fsrm_model.specs.values.Limits.{longest_action_text}
 use Rattle.image_codec.specs.Parts.{any, is_short, few_meet, some_meets, action_meets, threshold_meets, thresholds_meet, group_meets, screen_meets, filter_meets, job_meets}
 use Rattle.image_codec.specs.Pieces.{Piece, StartPiece, CountPiece, NodePiece, QuotaPiece, TemplatePiece, AutoPiece, GroupPiece, ScreenPiece, ExceptPiece, JobPiece, ActPiece, AuditPiece, piece_meets, piece_spelled, longest_piece}
 use Rattle.std.specs.List.{flat_map, list_all}
-use Rattle.std.proofs.lemmas.List.{length-append, take_more, append-nil}
-use Rattle.std.proofs.lemmas.List.Concat.{flat_map-append}
+use Rattle.std.proofs.lemmas.List.{length-append}
 use Rattle.byteorder.specs.Numbers.{length-bytes_low_first}
 use Rattle.fsrm_model.specs.declared.row.ActRow.{ActRow}
 use Rattle.fsrm_model.specs.declared.row.Action.{Action}
@@ -47,12 +46,6 @@ some_long spell x = omega (arith, length-append (number_spelled 1 1) (spell x), 
 pub list_long : {X : Type 0} (spell : X → List ℕ) (xs : List X) → length (listed_spelled (number_spelled 4) spell xs) ≡ 4 + length (flat_map spell xs)
 unfolding listed_spelled
 list_long spell xs = omega (arith, length-append (number_spelled 4 (length xs)) (flat_map spell xs), number_long 4 (length xs))
-
-pub item_long : {X : Type 0} (spell : X → List ℕ) (xs : List X) (i : ℕ) (x : X) → i < length xs → x ≡ get_or xs i x → length (flat_map spell (take (i + 1) xs)) ≡ length (flat_map spell (take i xs)) + length (spell x)
-item_long spell xs i x inside is =
-    let parts : flat_map spell (take (i + 1) xs) ≡ flat_map spell (take i xs) ++ (spell x ++ []) =
-    ap (flat_map spell) (take_more xs i x inside ∙ ap (λ y. take i xs ++ y ∷ []) (sym is)) ∙ flat_map-append spell (take i xs) (x ∷ []) in
-    ap length parts ∙ omega (arith, length-append (flat_map spell (take i xs)) (spell x ++ []), ap length (append-nil (spell x)))
 
 pub node_long : (r : NodeRow) → length (node.spell r) ≡ 47 + length r.name
 node_long r = simp (length-append, number_long, text_long) (omega arith)

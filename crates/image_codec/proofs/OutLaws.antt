@@ -37,10 +37,6 @@ pub written_whole : (old new bytes : List ℕ) (at end : ℕ) → at ≤ length 
 written_whole old new bytes at end place w room =
     drop_all (end - at) bytes (omega (arith, written_end old new bytes at end place w, w.room))
 
--- it writes no more than there are
-pub written_most : (old new bytes : List ℕ) (at end : ℕ) → at ≤ length old → Writes old at new end bytes → end - at ≤ length bytes
-written_most old new bytes at end place w = omega (arith, written_end old new bytes at end place w)
-
 -- one more piece: of all there is, so much is done, then a piece comes, and then the rest
 pub step_on : (all before left piece rest after cut : List ℕ) → all ≡ before ++ left → left ≡ piece ++ rest → before ++ piece ≡ after ++ cut → all ≡ after ++ (cut ++ rest)
 step_on all before left piece rest after cut so_far next wrote =

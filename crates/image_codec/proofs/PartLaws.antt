@@ -1,10 +1,10 @@
 -- Lists of parts.
-use Rattle.std.proofs.Common.{◌≡◌, ℕ, ◌+◌, ◌<◌, ◌^◌, Bool, true, List, length, take, refl, sym, ap, ◌∙◌, arith, Option, Some, None, inl, inr}
+use Rattle.std.proofs.Common.{◌≡◌, ℕ, ◌+◌, ◌<◌, ◌^◌, Bool, true, List, length, take, refl, sym, ap, ◌∙◌, arith, Option, Some, None}
 use Rattle.std.specs.Prelude.{get_or, nat_le}
 use Rattle.std.specs.List.{list_all}
 use Rattle.std.proofs.lemmas.Bool.{lt-ltb, leb-true}
-use Rattle.std.proofs.lemmas.List.Folds.{list_all_more, list_all_at}
-use Rattle.fsrm_base.proofs.TestLaws.{both, both_true, is_or_not, clash}
+use Rattle.std.proofs.lemmas.List.Folds.{list_all_more}
+use Rattle.fsrm_base.proofs.TestLaws.{both, both_true}
 use Rattle.record_fields.specs.Formats.{Format}
 use Rattle.image_codec.specs.Parts.{any, few_meet, some_meets}
 use Rattle.image_codec.specs.Rows.{rows}
@@ -25,10 +25,3 @@ rows_legal meets f xs most each small meet =
 pub some_any : {X : Type 0} (x : Option X) → some_meets any x ≡ true
 some_any None = refl
 some_any (Some x) = refl
-
-pub item_meets : {X : Type 0} (meets : X → Bool) (xs : List X) (i : ℕ) (x : X) → i < length xs → x ≡ get_or xs i x → list_all meets xs ≡ true → meets x ≡ true
-item_meets meets xs i x inside is all =
-    elim (is_or_not (meets (get_or xs i x))) [
-      | inl holds ↦ ap meets is ∙ holds
-      | inr fails ↦ absurd (clash (list_all meets xs) all (list_all_at meets xs i x inside fails))
-    ]

@@ -117,9 +117,6 @@ ok_then (Err e) f p = p
 pub resume_on : (s : Section) (R S : Rows) (still left : ℕ) (bytes rest : List ℕ) → items_of s S left rest ≡ items_of s R still bytes → resume s S left rest ≡ resume s R still bytes
 resume_on s R S still left bytes rest same = ap (λ r. r >>= λ x. after (following s) x.0 x.1) same
 
-pub resume_flaw : (s : Section) (R : Rows) (still : ℕ) (bytes : List ℕ) (flaw : Flaw) → items_of s R still bytes ≡ Err flaw → resume s R still bytes ≡ Err flaw
-resume_flaw s R still bytes flaw e = ap (λ r. r >>= λ x. after (following s) x.0 x.1) e
-
 -- ---- a list that was read on
 pub more_on : {X : Type 0} (f : Format X) (front now : List X) (put : List X → Rows) (still left : ℕ) (bytes rest : List ℕ) → with_front now (items_at f left rest) ≡ with_front front (items_at f still bytes)
     → more_of f now put left rest ≡ more_of f front put still bytes

@@ -1,7 +1,7 @@
 -- Places of quotas that are noted, and noted no longer, on the way up.
 use Rattle.std.proofs.Common.{◌≡◌, ℕ, ◌==◌, Bool, true, false, ◌&&◌, ◌||◌, not, List, Option, Some, None, nat_lt, slice_get, refl, ap, sym, ◌∙◌, subst, arith}
-use Rattle.std.proofs.lemmas.Option.{same_Some, slice_get-map}
-use Rattle.std.specs.Prelude.{map, option_map, if◌then◌else◌}
+use Rattle.std.proofs.lemmas.Option.{slice_get-map}
+use Rattle.std.specs.Prelude.{map, option_map}
 use Rattle.std.specs.Option.{option_map_or}
 use Rattle.fsrm_base.specs.Keyed.{has_row, is_ascending, row_of}
 use Rattle.fsrm_base.specs.Numbers.{is_in, is_set, with_number, without_number}
@@ -132,14 +132,6 @@ notes_one noted new quotas folder place test p a passes is =
     whole : (b : Bool) → (b && true) ≡ b
     whole true = refl
     whole false = refl
-
--- a place is noted if its quota passes
-pub notes_if : (noted new : Numbers) (quotas : List QuotaRow) (folder place : ℕ) (test : QuotaRow → Bool) (b : Bool) (p : Placed quotas folder place) → is_ascending folder_of quotas ≡ true → test p.quota ≡ b → new ≡ (if b then record noted { members = with_number place noted.members } else noted) → Notes noted new quotas (λ q. (q.folder == folder) && test q)
-notes_if noted new quotas folder place test true p a passes is = notes_one noted new quotas folder place test p a passes is
-notes_if noted new quotas folder place test false p a fails is =
-    subst (λ n. Notes noted n quotas (λ q. (q.folder == folder) && test q)) (sym is)
-    (notes_failed noted quotas folder test
-    (λ q own found. ap test (same_Some q p.quota (sym found ∙ row_at folder_of folder quotas place p.quota a p.there p.own)) ∙ fails) a)
 
 or_both : (a b c : Bool) → ((a || b) || c) ≡ (a || (b || c))
 or_both true b c = refl

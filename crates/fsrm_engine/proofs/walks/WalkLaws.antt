@@ -1,7 +1,6 @@
 -- What is at and below the nodes that are still to be visited.
 use Rattle.std.proofs.Common.{◌≡◌, ℕ, suc, ◌+◌, ◌*◌, ◌<◌, ◌≤◌, ◌==◌, Bool, true, false, cond, inl, inr, List, [], ◌∷◌, ◌++◌, length, refl, sym, ◌∙◌, ap, arith, Some, fold, nat_lt}
 use Rattle.std.proofs.lemmas.Bool.Decides.{nat_tests}
-use Rattle.std.proofs.lemmas.List.{length-map}
 use Rattle.std.proofs.lemmas.List.Sums.{sum_by-cons, sum_by_push}
 use Rattle.std.specs.Prelude.{map, filter, sum_by, nat_le}
 use Rattle.std.specs.List.{AllByRecursion, list_all}
@@ -131,12 +130,6 @@ count_all K nodes [] v h = omega arith
 count_all K nodes (n ∷ numbers) v h =
     let below : ℕ → ℕ = λ m. length (under nodes m) in
     omega (arith, count_least K nodes n v h.0, count_all K nodes numbers v h.1, sum_by-cons below n numbers)
-
--- a node and its children are below it
-pub children_few : (K : Capacity) (nodes : List NodeRow) (n : ℕ) → IsVolume K nodes → has_row number n nodes ≡ true → 1 + length (children_in_order nodes n) ≤ length (under nodes n)
-children_few K nodes n v h =
-    let f = has_found number n nodes h in
-    omega (arith, count_of_children K nodes n f.row v f.is, count_all K nodes (map number (children_in_order nodes n)) v (children_there nodes n), length-map (children_in_order nodes n) number)
 
 -- what a file takes
 pub file_sum : (K : Capacity) (nodes : List NodeRow) (n : ℕ) (view : NodeView) → IsVolume K nodes → Shows view nodes n → view.folder ≡ false → usage K nodes n ≡ alloc K view.length
