@@ -35,6 +35,22 @@ struct Walk {
     tasks: Vec<Task>,
 }
 
+impl Walk {
+    // One that is to visit the root.
+    fn from_root(alloc: Global) -> Result<Walk, NoMemory>
+        ensures tasks { IfOk result (λ walk. walk.tasks.items ≡ Visit 0 ∷ []) }
+        ensures none { IfOk result (λ walk. walk.folders.items ≡ []) }
+    {
+        let mut tasks = Vec::new(alloc);
+        tasks.push(Task::Visit { folder: 0 })?;
+        Ok(Walk {
+            finger: Finger::default(),
+            folders: Vec::new(alloc),
+            tasks,
+        })
+    }
+}
+
 /// What the folder of each quota uses, in the order of the quotas. A walk through the whole tree passes each folder once:
 /// what it counts between a quota's folder and the end of what is below is the quota's sum, however many quotas stand
 /// one below another. It takes no more than 3 looks for each node.
@@ -51,23 +67,9 @@ pub fn quota_sums<L: Ledger>(
     ensures looks { steps.new ≤ steps.old + 3 * length tree.now.nodes }
 {
     let mut sums = vec![in alloc; 0u64; objects.quota_count() as usize]?;
-    let mut walk = walk_from_root(alloc)?;
+    let mut walk = Walk::from_root(alloc)?;
     sum_all(tree, objects, &mut walk, &mut sums, steps)?;
     Ok(sums)
-}
-
-// A walk that is to visit the root.
-fn walk_from_root(alloc: Global) -> Result<Walk, NoMemory>
-    ensures tasks { IfOk result (λ walk. walk.tasks.items ≡ Visit 0 ∷ []) }
-    ensures none { IfOk result (λ walk. walk.folders.items ≡ []) }
-{
-    let mut tasks = Vec::new(alloc);
-    tasks.push(Task::Visit { folder: 0 })?;
-    Ok(Walk {
-        finger: Finger::default(),
-        folders: Vec::new(alloc),
-        tasks,
-    })
 }
 
 // Does all tasks, at first the visit of the root.
