@@ -12,6 +12,7 @@ pub mod Names
 pub mod Narrowed
 pub mod OrderLaws
 pub mod OwnEntries
+pub mod Pairs
 pub mod Places
 pub mod Runs
 pub mod Segments

@@ -12,9 +12,9 @@ use name_rules::fold_cmp;
 use node_table::NodeTable;
 use std::cmp::Ordering;
 
-// A folder and the prefix of a name in it as one number, so that both are compared at once, without a branch.
+/// A folder and the prefix of a name in it as one number, so that both are compared at once, without a branch.
 #[inline]
-fn place_key(folder: u64, prefix: u64) -> u128
+pub fn place_key(folder: u64, prefix: u64) -> u128
     ensures { result ≡ place_key folder prefix }
 {
     u128::from(folder) * 0x1_0000_0000_0000_0000 + u128::from(prefix)

@@ -27,6 +27,7 @@ mod hints;
 mod lookup;
 mod moves;
 mod order;
+mod placed;
 mod reads;
 mod rows;
 mod segment;

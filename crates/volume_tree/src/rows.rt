@@ -3,7 +3,6 @@
 ghost use Rattle.std.specs.Prelude.{◌≡◌, ◌+◌, ◌≤◌, ◌&&◌, IfOk, OnOk, IsErrOf, MatchOption, true, false, length, nat_le, map, ◌<◌, ℕ, MatchBool, slice_index_or, slice_set};
 ghost use Rattle.std.specs.List.{IsAllAdjacentAnswer, list_all};
 ghost use Rattle.std.specs.List.Sorted.{IsPermutation, IsSortedBy};
-ghost use Rattle.std.specs.Ordering.{is_lt};
 ghost use Rattle.fsrm_base.specs.Keyed.{has_row, is_ascending};
 ghost use Rattle.fsrm_model.specs.nodes.Tree.{number as key, parent_of, is_folder, is_under, name_bytes};
 ghost use Rattle.fsrm_model.specs.store.Valid.{is_tree, is_moment, is_own, is_root_node};
@@ -15,14 +14,14 @@ ghost use Rattle.fsrm_model.specs.store.Capacities.{is_capacity};
 
 use crate::answer::RowsFault;
 use crate::entries::{Entry, Order};
+use crate::placed::{Placed, compare};
 use crate::slots::{holes_in, is_there, row};
 use fsrm_model::limits::{LATEST_MOMENT, LONGEST_FILE};
 use fsrm_model::{Capacity, NoMemory, NodeRow};
-use name_rules::{fold_cmp, is_name};
+use name_rules::is_name;
 use node_table::{NodeTable, NodeView};
 use number_set::NumberSet;
 use std::alloc::Global;
-use std::cmp::Ordering;
 
 /// What a tree keeps of its rows.
 #[derive(Drop)]
@@ -337,53 +336,42 @@ fn order_of(alloc: Global, rows: &[NodeRow], room: u32) -> Result<Order, RowsFau
 }
 
 // All rows but the root, by folders and in each folder by folded names.
-fn sorted<'a>(alloc: Global, rows: &'a [NodeRow]) -> Result<Vec<&'a NodeRow>, NoMemory>
-    ensures all { IfOk result (λ entries. IsPermutation (inner rows.now) (map (λ row. row.now) entries.items)) }
-    ensures sorted { IfOk result (λ entries. IsSortedBy (λ a b. is_before a.now b.now.parent b.now.name) entries.items) }
+fn sorted(alloc: Global, rows: &[NodeRow]) -> Result<Vec<Placed<'_>>, NoMemory>
+    ensures all { IfOk result (λ entries. IsPermutation (inner rows.now) (map (λ p. p.row.now) entries.items)) }
+    ensures sorted { IfOk result (λ entries. IsSortedBy (λ a b. is_before a.row.now b.row.now.parent b.row.now.name) entries.items) }
 {
     let mut entries = inner(alloc, rows)?;
     entries.sort_unstable_by(|a, b| compare(a, b));
     Ok(entries)
 }
 
-fn inner<'a>(alloc: Global, rows: &'a [NodeRow]) -> Result<Vec<&'a NodeRow>, NoMemory>
-    ensures { IfOk result (λ entries. map (λ row. row.now) entries.items ≡ inner rows.now) }
+fn inner(alloc: Global, rows: &[NodeRow]) -> Result<Vec<Placed<'_>>, NoMemory>
+    ensures { IfOk result (λ entries. map (λ p. p.row.now) entries.items ≡ inner rows.now) }
 {
-    let entries = rows.iter().filter(|row| row.number != 0).collect(alloc)?;
+    let entries = rows
+        .iter()
+        .filter(|row| row.number != 0)
+        .map(|row| Placed::of(row))
+        .collect(alloc)?;
     Ok(entries)
 }
 
-fn compare(a: &NodeRow, b: &NodeRow) -> Ordering
-    ensures { is_lt result ≡ is_before a.now b.now.parent b.now.name }
-{
-    match a.parent.cmp(&b.parent) {
-        Ordering::Equal => fold_cmp(a.name.as_str(), b.name.as_str()),
-        order => order,
-    }
-}
-
 // Whether each entry stands before the next.
-fn are_apart(entries: &[&NodeRow]) -> bool
-    ensures { IsAllAdjacentAnswer (λ a b answer. answer ≡ is_before a.now b.now.parent b.now.name) entries.now result }
+fn are_apart(entries: &[Placed<'_>]) -> bool
+    ensures { IsAllAdjacentAnswer (λ a b answer. answer ≡ is_before a.row.now b.row.now.parent b.row.now.name) entries.now result }
 {
     entries.is_sorted_by(|a, b| compare(a, b).is_lt())
 }
 
 // The entries of these rows, with room for so many.
-fn listed(alloc: Global, rows: &[&NodeRow], room: u32) -> Result<Order, NoMemory>
+fn listed(alloc: Global, rows: &[Placed<'_>], room: u32) -> Result<Order, NoMemory>
     requires { length rows.now ≤ room }
-    ensures numbers { IfOk result (λ order. entries_of order.runs ≡ map (λ row. row.now.number) rows.now) }
-    ensures entries { IfOk result (λ order. order.entries ≡ map (λ row. entry_of row.now) rows.now) }
+    ensures numbers { IfOk result (λ order. entries_of order.runs ≡ map (λ p. p.row.now.number) rows.now) }
+    ensures entries { IfOk result (λ order. order.entries ≡ map (λ p. entry_of p.row.now) rows.now) }
     ensures room { IfOk result (λ order. order.room ≡ room) }
 {
-    let entries: Vec<Entry> = rows.iter().map(|row| entry(row)).collect(alloc)?;
+    let entries: Vec<Entry> = rows.iter().map(|placed| placed.entry).collect(alloc)?;
     let mut order = Order::reserve(alloc, room)?;
     order.extend_from_slice(&entries);
     Ok(order)
-}
-
-fn entry(row: &NodeRow) -> Entry
-    ensures { result ≡ entry_of row.now }
-{
-    Entry::at(row.number, row.parent, row.name.as_str())
 }

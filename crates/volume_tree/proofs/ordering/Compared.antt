@@ -55,7 +55,7 @@ lt_at true c = refl
 lt_at false true = refl
 lt_at false false = refl
 
-lt_cmp : (p q : ℕ) → is_lt (nat_cmp p q) ≡ nat_lt p q
+pub lt_cmp : (p q : ℕ) → is_lt (nat_cmp p q) ≡ nat_lt p q
 lt_cmp p q = lt_at (nat_lt p q) (p == q)
 
 eq_at : (b c : Bool) → (b ≡ true → c ≡ false) → is_eq (cond b Less (cond c Equal Greater)) ≡ c

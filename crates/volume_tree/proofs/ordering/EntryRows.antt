@@ -8,7 +8,6 @@ use Rattle.std.proofs.lemmas.List.Sorted.{ranks_by, IsPermutation-map, All-permu
 use Rattle.std.proofs.lemmas.Map.Keys.{IsDistinct-IsPermutation}
 use Rattle.std.proofs.lemmas.Map.Made.{AllPairs-from_IsDistinct, IsDistinct-from_AllPairs}
 use Rattle.std.proofs.lemmas.Simd.{map-map}
-use Rattle.std.specs.Borrow.{Bor}
 use Rattle.std.specs.Cmp.{IsStrictWeakOrder}
 use Rattle.std.specs.List.{AllAdjacentBelow}
 use Rattle.std.specs.List.Sorted.{IsSortedBy}
@@ -20,6 +19,7 @@ use Rattle.fsrm_base.proofs.Order.{ascending-filter}
 use Rattle.fsrm_base.proofs.TestLaws.{clash, is_false, is_or_not}
 use Rattle.volume_tree.specs.Kept.{IsOrder, inner, is_before}
 use Rattle.volume_tree.specs.Sound.{HasTwins}
+use Rattle.volume_tree.specs.declared.placed.Placed.{Placed}
 use Rattle.volume_tree.proofs.ordering.Entries.{ascending_pairs, rows_found}
 use Rattle.volume_tree.proofs.ordering.Names.{comes, comes_below, comes_equal, comes_then, comes_turned, name_before_or_after, stays_above, stays_is}
 
@@ -39,12 +39,12 @@ stays_then p a q b r c h g =
       ]
     ]
 
--- lent rows are compared by their places
-pub before_weak : IsStrictWeakOrder (λ (a b : Bor NodeRow). is_before a.now b.now.parent b.now.name)
+-- rows beside their entries are compared by their places
+pub before_weak : IsStrictWeakOrder (λ (a b : Placed). is_before a.row.now b.row.now.parent b.row.now.name)
 before_weak =
     record {
-      one_way = λ a b h. comes_turned a.now.parent a.now.name b.now.parent b.now.name h;
-      chain = λ a b c h g. stays_then a.now.parent a.now.name b.now.parent b.now.name c.now.parent c.now.name h g;
+      one_way = λ a b h. comes_turned a.row.now.parent a.row.now.name b.row.now.parent b.row.now.name h;
+      chain = λ a b c h g. stays_then a.row.now.parent a.row.now.name b.row.now.parent b.row.now.name c.row.now.parent c.row.now.name h g;
     }
 
 -- a relation of neighbours that chains holds of all pairs
@@ -113,10 +113,10 @@ one_place a b h g =
     ]
 
 -- of rows in order, two neighbours of which the first doesn't come before the second are children of one name
-pub twins : (nodes : List NodeRow) (entries : List (Bor NodeRow)) (k : ℕ) → is_ascending number nodes ≡ true → IsPermutation (inner nodes) (map (λ (r : Bor NodeRow). r.now) entries) → IsSortedBy (λ (a b : Bor NodeRow). is_before a.now b.now.parent b.now.name) entries → k + 1 < length entries → ((d : Bor NodeRow) → false ≡ is_before (get_or entries k d).now (get_or entries (k + 1) d).now.parent (get_or entries (k + 1) d).now.name) → HasTwins nodes
+pub twins : (nodes : List NodeRow) (entries : List Placed) (k : ℕ) → is_ascending number nodes ≡ true → IsPermutation (inner nodes) (map (λ (r : Placed). r.row.now) entries) → IsSortedBy (λ (a b : Placed). is_before a.row.now b.row.now.parent b.row.now.name) entries → k + 1 < length entries → ((d : Placed) → false ≡ is_before (get_or entries k d).row.now (get_or entries (k + 1) d).row.now.parent (get_or entries (k + 1) d).row.now.name) → HasTwins nodes
 twins nodes [] k a p s l h = absurd (omega arith)
 twins nodes (x ∷ xs) k a p s l h =
-    let now : Bor NodeRow → NodeRow = λ r. r.now in
+    let now : Placed → NodeRow = λ r. r.row.now in
     let entries = x ∷ xs in
     let size = length-map entries now in
     let sizes = length-map (map now entries) number in
@@ -124,35 +124,35 @@ twins nodes (x ∷ xs) k a p s l h =
     let numbers = inner_numbers nodes (map now entries) p in
     let one = get_or entries k x in
     let other = get_or entries (k + 1) x in
-    let one_is = get_or-map now entries k x x.now (omega arith) in
-    let other_is = get_or-map now entries (k + 1) x x.now (omega arith) in
-    let place = one_place one.now other.now (sym (h x)) (s k x (omega arith) (omega arith)) in
+    let one_is = get_or-map now entries k x x.row.now (omega arith) in
+    let other_is = get_or-map now entries (k + 1) x x.row.now (omega arith) in
+    let place = one_place one.row.now other.row.now (sym (h x)) (s k x (omega arith) (omega arith)) in
     let apart = numbers_apart nodes (map now entries) a p k (k + 1) 0 (omega arith) (omega arith) in
-    let one_number = get_or-map number (map now entries) k x.now 0 (omega arith) ∙ ap number one_is in
-    let other_number = get_or-map number (map now entries) (k + 1) x.now 0 (omega arith) ∙ ap number other_is in
+    let one_number = get_or-map number (map now entries) k x.row.now 0 (omega arith) ∙ ap number one_is in
+    let other_number = get_or-map number (map now entries) (k + 1) x.row.now 0 (omega arith) ∙ ap number other_is in
     record {
-      one = one.now;
-      other = other.now;
-      one_found = subst (λ (r : NodeRow). node_of nodes r.number ≡ Some r) one_is (found k x.now (omega arith));
-      other_found = subst (λ (r : NodeRow). node_of nodes r.number ≡ Some r) other_is (found (k + 1) x.now (omega arith));
-      one_inner = is_false _ (subst (λ (r : NodeRow). not (r.number == 0) ≡ true) one_is (numbers k x.now (omega arith)));
-      other_inner = is_false _ (subst (λ (r : NodeRow). not (r.number == 0) ≡ true) other_is (numbers (k + 1) x.now (omega arith)));
+      one = one.row.now;
+      other = other.row.now;
+      one_found = subst (λ (r : NodeRow). node_of nodes r.number ≡ Some r) one_is (found k x.row.now (omega arith));
+      other_found = subst (λ (r : NodeRow). node_of nodes r.number ≡ Some r) other_is (found (k + 1) x.row.now (omega arith));
+      one_inner = is_false _ (subst (λ (r : NodeRow). not (r.number == 0) ≡ true) one_is (numbers k x.row.now (omega arith)));
+      other_inner = is_false _ (subst (λ (r : NodeRow). not (r.number == 0) ≡ true) other_is (numbers (k + 1) x.row.now (omega arith)));
       apart = λ e. apart (one_number ∙ (e ∙ sym other_number));
       folder = place.folder;
       name = place.name;
     }
 
 -- rows in order, each before the next, are an order of the nodes
-pub ordered : (nodes : List NodeRow) (entries : List (Bor NodeRow)) (order : List ℕ) → IsPermutation (inner nodes) (map (λ (r : Bor NodeRow). r.now) entries) → AllAdjacentBelow (λ (a b : Bor NodeRow). true ≡ is_before a.now b.now.parent b.now.name) entries (length entries) → order ≡ map (λ (r : Bor NodeRow). r.now.number) entries → IsOrder nodes order
+pub ordered : (nodes : List NodeRow) (entries : List Placed) (order : List ℕ) → IsPermutation (inner nodes) (map (λ (r : Placed). r.row.now) entries) → AllAdjacentBelow (λ (a b : Placed). true ≡ is_before a.row.now b.row.now.parent b.row.now.name) entries (length entries) → order ≡ map (λ (r : Placed). r.row.now.number) entries → IsOrder nodes order
 ordered nodes entries order p h e =
     let Before : NodeRow → NodeRow → Type 0 = λ a b. is_before a b.parent b.name ≡ true in
-    let pairs = pairs_of_neighbours (λ (a b : Bor NodeRow). Before a.now b.now)
-    (λ a b c l m. comes_then a.now.parent a.now.name b.now.parent b.now.name c.now.parent c.now.name l m) entries (λ k d l. sym (h k d l)) in
+    let pairs = pairs_of_neighbours (λ (a b : Placed). Before a.row.now b.row.now)
+    (λ a b c l m. comes_then a.row.now.parent a.row.now.name b.row.now.parent b.row.now.name c.row.now.parent c.row.now.name l m) entries (λ k d l. sym (h k d l)) in
     record {
-      entries = map (λ (r : Bor NodeRow). r.now) entries;
-      numbers = e ∙ sym (map-map number (λ (r : Bor NodeRow). r.now) entries);
+      entries = map (λ (r : Placed). r.row.now) entries;
+      numbers = e ∙ sym (map-map number (λ (r : Placed). r.row.now) entries);
       members = p;
-      ascending = pairs-map Before (λ (r : Bor NodeRow). r.now) entries pairs;
+      ascending = pairs-map Before (λ (r : Placed). r.row.now) entries pairs;
     }
 
 -- there are no more entries than rows
@@ -164,6 +164,6 @@ kept_fit {X} p (x ∷ xs) = at (p x) (kept_fit p xs)
     at true l = omega (arith, l)
     at false l = omega (arith, l)
 
-pub entries_fit : (rows : List NodeRow) (entries : List (Bor NodeRow)) → IsPermutation (inner rows) (map (λ (r : Bor NodeRow). r.now) entries) → length entries ≤ length rows
+pub entries_fit : (rows : List NodeRow) (entries : List Placed) → IsPermutation (inner rows) (map (λ (r : Placed). r.row.now) entries) → length entries ≤ length rows
 entries_fit rows entries all =
-    omega (arith, kept_fit (λ (node : NodeRow). not (node.number == 0)) rows, length_permutation (inner rows) (map (λ (r : Bor NodeRow). r.now) entries) all, length-map entries (λ (r : Bor NodeRow). r.now))
+    omega (arith, kept_fit (λ (node : NodeRow). not (node.number == 0)) rows, length_permutation (inner rows) (map (λ (r : Placed). r.row.now) entries) all, length-map entries (λ (r : Placed). r.row.now))
