@@ -295,6 +295,13 @@ impl Journal {
         self.end.saturating_sub(self.image_end)
     }
 
+    /// The part that rules.
+    pub fn ruling(&self) -> Part
+        ensures { result ≡ self.now.ruling }
+    {
+        self.ruling
+    }
+
     /// How many records are held.
     pub fn held(&self) -> u32
         ensures { result ≡ self.now.held }

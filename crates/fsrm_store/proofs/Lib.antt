@@ -1,6 +1,16 @@
+pub mod ChangeLaws
+pub mod EnginePieceLaws
+pub mod EntriesRead
+pub mod ImageLaws
+pub mod ImageTaken
+pub mod InitLaws
 pub mod KeepsLaws
+pub mod KeptAs
 pub mod NoStates
+pub mod Opened
+pub mod QuietCalls
 pub mod ReadLaws
 pub mod RecordWalks
+pub mod Standings
 pub mod StateLaws
 pub mod TailLaws

@@ -11,7 +11,7 @@ use Rattle.fsrm_store.specs.Keeps.{Spell}
 use Rattle.fsrm_store.specs.States.{with_entry, with_record, first_entries}
 
 -- ---- a reader comes to nothing past the end
-inside : (half : List ℕ) (place : ℕ) (found : Option (ℕ × ℕ)) → record_at half place ≡ Ok found → place < length half
+pub inside : (half : List ℕ) (place : ℕ) (found : Option (ℕ × ℕ)) → record_at half place ≡ Ok found → place < length half
 inside half place (Some (p, n)) is = let s = (stands half place p n is).0 in omega (arith, s.whole)
 inside half place None is = by (nat_lt place (length half)) refl is
   where

@@ -1,4 +1,10 @@
+pub mod EnginePieces
+pub mod Faults
+pub mod Init
 pub mod Keeps
+pub mod NewHalf
 pub mod Reads
+pub mod Recovery
+pub mod Standing
 pub mod States
 pub mod WorkedStates

@@ -13,6 +13,7 @@ ghost use Rattle.fsrm_model.specs.store.OldReplays.{old_replayed};
 ghost use Rattle.fsrm_model.specs.store.Replays.{recovered, journal_entry, command_entries, is_valid_entry};
 ghost use Rattle.fsrm_model.specs.store.Valid.{is_valid, IsValid};
 ghost use Rattle.fsrm_model.specs.store.Valued.{is_command};
+ghost use Rattle.fsrm_outside.specs.Moments.{EachNow};
 ghost use Rattle.fsrm_outside.specs.Parts.{Parts, part_of};
 ghost use Rattle.fsrm_outside.specs.declared.traits.Part.{Part};
 ghost use Rattle.fsrm_journal.specs.Formatted.{has_store};
@@ -31,7 +32,11 @@ ghost use Rattle.fsrm_store.specs.Keeps.{Spell, HoldsState, HoldsOldState, Keeps
 ghost use Rattle.fsrm_store.specs.States.{state_of};
 ghost use Rattle.fsrm_store.specs.States.State.{NoState, DamagedAt, Holds};
 ghost use Rattle.fsrm_store.specs.Reads.{Rules, image_bytes, ComesTo};
+ghost use Rattle.fsrm_store.specs.Standing.{Standing, StandsAlike};
+ghost use Rattle.fsrm_store.specs.declared.store.Store.{Store};
 ghost use Rattle.fsrm_store.specs.WorkedStates.{no_bytes, closed_gates, new_store, no_part, newer_half, equal_halves, wrong_version, cut_image, short_image, short_part, wrong_rows, one_record, refused_record, closed_record, no_gate, no_length, length_zero, no_body, no_next_gate, wrong_kind, wrong_owner, long_body};
+
+use fsrm_outside::Disk;
 
 /// What the bytes of a store hold.
 pub fn states()
@@ -100,6 +105,12 @@ pub fn calls()
     ensures checkpoint { (head : Head) (image : List ℕ) (R : Rows) → IsValid head.size R → image_in (length image) image ≡ Ok (lasting R)
         → Keeps (lasting R) head image [] [] R }
     ensures new { (head : Head) → 1 ≤ head.size.nodes → Keeps new_rows head new_image [] [] new_rows }
+{}
+
+/// What a crash leaves of a store that stands, and when another one stands there, too.
+pub fn standing<D: Disk>()
+    ensures now { (kept : Rows) (store : Store) (disk : D) → Standing D.reads D.disk_clock D.images kept store disk → EachNow D.disk_clock D.images (HoldsState store.engine.size kept) disk }
+    ensures alike { (kept : Rows) (store after : Store) (disk : D) → StandsAlike store after → Standing D.reads D.disk_clock D.images kept store disk → Standing D.reads D.disk_clock D.images kept after disk }
 {}
 
 /// How many bytes the records of a store have. It is one number, that of its bodies' records.

@@ -42,3 +42,4 @@ pub use lengths::row_len;
 pub use record_codec::CodecFault;
 pub use row_pieces::RowPieces;
 pub use row_ref::RowRef;
+pub use section::Section;

@@ -1,0 +1,74 @@
+use Rattle.std.proofs.Common.{refl, sym, ◌∙◌, ◌≡◌, true, length, subst, ap, arith}
+use Rattle.fsrm_model.specs.declared.command.Outcome.{Outcome}
+use Rattle.fsrm_model.specs.store.Replays.{is_finished_scan}
+use Rattle.fsrm_store.proofs.KeptAs.{lasting_finished}
+use Rattle.fsrm_model.specs.store.Lasting.{lasting}
+use Rattle.fsrm_model.specs.commands.Step.{step}
+use Rattle.fsrm_model.proofs.valid.ValidTests.{test_by_valid, valid_by_test}
+use Rattle.fsrm_model.specs.meaning.Named.{IsNamed}
+use Rattle.fsrm_engine.specs.Machine.{Machine, Takes}
+use Rattle.record_codec.specs.Writing.{IsWritable}
+use Rattle.fsrm_store.proofs.KeepsLaws.{entry_writable}
+use Rattle.fsrm_store.proofs.Standings.{leads, leaves_as, none_held, settled, stands_on, stands_still}
+use Rattle.fsrm_store.proofs.store.Store.apply.Goals as goal
+
+pub keep-requires-clause-writable : goal.keep-requires-clause-writable
+keep-requires-clause-writable g c =
+    let t = c.in_ok-answer.ensures.ok in
+    let old = c.args.self.now.engine in
+    let lasts = sym t.lasting_is ∙ c.if-answer.true in
+    subst IsWritable (sym (c.entry_of.ensures old.size old.rows (sym t.outcome_is))) (entry_writable old.size old.rows c.args.command.now (valid_by_test old.size old.rows c.args.self.now.valid) c.requires.valid lasts)
+
+pub returns-in_err-answer-clause-leaves : goal.returns-in_err-answer-clause-leaves
+returns-in_err-answer-clause-leaves g c kept s = stands_still _ _ s refl
+
+pub returns-in_err-keep-clause-leaves : goal.returns-in_err-keep-clause-leaves
+returns-in_err-keep-clause-leaves g c kept s =
+    let t = c.in_ok-answer.ensures.ok in
+    let old = c.args.self.now.engine in
+    leaves_as kept t.size_is t.rows_are
+    (c.keep.ensures.leaves kept old.rows (stands_on _ s refl t.size_is refl)
+    (leads old.size _ old.rows _ c.args.command.now _ c.requires.valid (sym t.lasting_is ∙ c.if-answer.true) (c.entry_of.ensures old.size old.rows (sym t.outcome_is)) t.size_is t.rows_are))
+
+pub returns-in_ok-keep-clause-leaves : goal.returns-in_ok-keep-clause-leaves
+returns-in_ok-keep-clause-leaves g c kept s =
+    let t = c.in_ok-answer.ensures.ok in
+    let old = c.args.self.now.engine in
+    leaves_as kept t.size_is t.rows_are
+    (c.keep.ensures.leaves kept old.rows (stands_on _ s refl t.size_is refl)
+    (leads old.size _ old.rows _ c.args.command.now _ c.requires.valid (sym t.lasting_is ∙ c.if-answer.true) (c.entry_of.ensures old.size old.rows (sym t.outcome_is)) t.size_is t.rows_are))
+
+pub returns-in_ok-keep-clause-store : goal.returns-in_ok-keep-clause-store
+returns-in_ok-keep-clause-store g c kept s =
+    let t = c.in_ok-answer.ensures.ok in
+    let old = c.args.self.now.engine in
+    c.in_ok-keep.ensures.store kept old.rows (stands_on _ s refl t.size_is refl)
+    (leads old.size _ old.rows _ c.args.command.now _ c.requires.valid (sym t.lasting_is ∙ c.if-answer.true) (c.entry_of.ensures old.size old.rows (sym t.outcome_is)) t.size_is t.rows_are)
+
+pub returns-else-answer-clause-leaves : goal.returns-else-answer-clause-leaves
+returns-else-answer-clause-leaves g c kept s = stands_still _ _ s refl
+
+pub returns-else-answer-clause-store : goal.returns-else-answer-clause-store
+returns-else-answer-clause-store g c kept s =
+    let t = c.in_ok-answer.ensures.ok in
+    settled (none_held _ c.args.command.now s c.requires.valid (sym t.lasting_is ∙ c.if-answer.false) refl t.size_is t.rows_are refl)
+
+pub entry_of-requires : goal.entry_of-requires
+entry_of-requires g c scan =
+    let t = c.in_ok-answer.ensures.ok in
+    let old = c.args.self.now.engine in
+    subst (λ (o : Outcome). is_finished_scan o ≡ true) (sym t.outcome_is) (lasting_finished old.size old.rows c.args.command.now (sym t.lasting_is ∙ c.if-answer.true) scan)
+
+pub returns-in_ok-keep-clause-ok : goal.returns-in_ok-keep-clause-ok
+returns-in_ok-keep-clause-ok g c =
+    let old = c.args.self.now.engine in
+    subst (λ (m : Machine). Takes old m (step old.size old.rows c.args.command.now) c.in_ok-answer.answer) (sym c.keep.ensures.engine) c.in_ok-answer.ensures.ok
+
+pub returns-in_ok-keep-clause-named : goal.returns-in_ok-keep-clause-named
+returns-in_ok-keep-clause-named g c = subst (λ (m : Machine). IsNamed m.rows c.in_ok-answer.answer.outcome) (sym c.keep.ensures.engine) c.in_ok-answer.ensures.named
+
+pub returns-in_ok-keep-clause-looks : goal.returns-in_ok-keep-clause-looks
+returns-in_ok-keep-clause-looks g c = omega (arith, c.apply.ensures.looks, c.keep.ensures.looks, ap (λ (m : Machine). length m.rows.nodes) c.keep.ensures.engine)
+
+pub invariant_of-self-clause-valid : goal.invariant_of-self-clause-valid
+invariant_of-self-clause-valid g c = test_by_valid c.apply.new.self.size c.apply.new.self.rows c.apply.ensures.kept

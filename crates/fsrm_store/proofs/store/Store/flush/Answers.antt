@@ -1,0 +1,19 @@
+use Rattle.std.proofs.Common.{refl, sym, ◌∙◌, arith}
+use Rattle.fsrm_model.specs.store.Lasting.{lasting}
+use Rattle.fsrm_store.proofs.Standings.{none_waits, stands_on, stands_still}
+use Rattle.fsrm_store.proofs.store.Store.flush.Goals as goal
+
+pub returns-then-held-eq0-clause-leaves : goal.returns-then-held-eq0-clause-leaves
+returns-then-held-eq0-clause-leaves g c kept s = stands_still c.args.self.now.engine.size (lasting c.args.self.now.engine.rows) s refl
+
+pub returns-then-held-eq0-clause-store : goal.returns-then-held-eq0-clause-store
+returns-then-held-eq0-clause-store g c kept s = none_waits (sym c.held.ensures ∙ c.if-held-eq0.true) s
+
+pub returns-in_err-write-clause-leaves : goal.returns-in_err-write-clause-leaves
+returns-in_err-write-clause-leaves g c kept s = c.write.ensures.leaves kept (stands_on _ s refl refl refl)
+
+pub returns-clause-leaves : goal.returns-clause-leaves
+returns-clause-leaves g c kept s = c.write.ensures.leaves kept (stands_on _ s refl refl refl)
+
+pub returns-clause-store : goal.returns-clause-store
+returns-clause-store g c kept s = stands_on _ (c.in_ok-write.ensures.store kept (stands_on _ s refl refl refl)) refl refl refl

@@ -1,0 +1,41 @@
+use Rattle.std.proofs.Common.{refl}
+use Rattle.fsrm_model.specs.store.Lasting.{lasting}
+use Rattle.fsrm_outside.proofs.Stages.{DiskLaws, joined}
+use Rattle.fsrm_store.proofs.Standings.{flush_leaves, flushed, later_leaves}
+use Rattle.fsrm_store.proofs.store.Store.write.Goals as goal
+
+pub returns-in_err-flush-clause-leaves : goal.returns-in_err-flush-clause-leaves
+returns-in_err-flush-clause-leaves g c kept s =
+    flush_leaves c.flush.new.disk s (c.flush.ensures.leaves s.head s.bytes s.bodies s.held s.stands s.holding)
+
+pub returns-in_err-change-clause-leaves : goal.returns-in_err-change-clause-leaves
+returns-in_err-change-clause-leaves g c kept s =
+    let M = g.met.D.Disk in
+    let laws : DiskLaws g.D.Disk.disk_clock g.D.Disk.images g.D.Disk.by_disk = record { same = M.disk_same; then_by = M.disk_then; later = M.disk_later; past = M.disk_past } in
+    let engine = c.args.self.now.engine in
+    joined laws c.flush.ensures.by c.change.ensures.by
+    (flush_leaves c.flush.new.disk s (c.flush.ensures.leaves s.head s.bytes s.bodies s.held s.stands s.holding))
+    (later_leaves engine.size kept (lasting engine.rows)
+    (c.change.ensures.leaves (lasting engine.rows) (flushed _ _ s (c.in_ok-flush.ensures.store s.head s.bytes s.bodies s.held s.stands s.holding) c.in_ok-flush.ensures.holding refl refl)))
+
+pub returns-in_ok-change-clause-leaves : goal.returns-in_ok-change-clause-leaves
+returns-in_ok-change-clause-leaves g c kept s =
+    let M = g.met.D.Disk in
+    let laws : DiskLaws g.D.Disk.disk_clock g.D.Disk.images g.D.Disk.by_disk = record { same = M.disk_same; then_by = M.disk_then; later = M.disk_later; past = M.disk_past } in
+    let engine = c.args.self.now.engine in
+    joined laws c.flush.ensures.by c.change.ensures.by
+    (flush_leaves c.flush.new.disk s (c.flush.ensures.leaves s.head s.bytes s.bodies s.held s.stands s.holding))
+    (later_leaves engine.size kept (lasting engine.rows)
+    (c.change.ensures.leaves (lasting engine.rows) (flushed _ _ s (c.in_ok-flush.ensures.store s.head s.bytes s.bodies s.held s.stands s.holding) c.in_ok-flush.ensures.holding refl refl)))
+
+pub returns-in_ok-change-clause-store : goal.returns-in_ok-change-clause-store
+returns-in_ok-change-clause-store g c kept s =
+    c.in_ok-change.ensures.store (lasting c.args.self.now.engine.rows) (flushed _ _ s (c.in_ok-flush.ensures.store s.head s.bytes s.bodies s.held s.stands s.holding) c.in_ok-flush.ensures.holding refl refl)
+
+pub returns-else-tail-max-clause-leaves : goal.returns-else-tail-max-clause-leaves
+returns-else-tail-max-clause-leaves g c kept s =
+    flush_leaves c.flush.new.disk s (c.flush.ensures.leaves s.head s.bytes s.bodies s.held s.stands s.holding)
+
+pub returns-else-tail-max-clause-store : goal.returns-else-tail-max-clause-store
+returns-else-tail-max-clause-store g c kept s =
+    flushed _ _ s (c.in_ok-flush.ensures.store s.head s.bytes s.bodies s.held s.stands s.holding) c.in_ok-flush.ensures.holding refl refl
