@@ -12,7 +12,7 @@ use Rattle.fsrm_model.specs.lines.Script.{is_end, lines, spelled_lines, Replied,
 use Rattle.fsrm_model.proofs.lines.ScriptLaws.{lines_last, spelled_lines-append, AreLines-append, replied-held, line_cost-held, text_from-append, fold_from-append, cost_from-append}
 use Rattle.fsrm_outside.specs.Shown.{IsFront, ShowsFront}
 use Rattle.fsrm_outside.proofs.Shown.{append_known-nil, shows_then}
-use Rattle.reply_text.specs.Writes.{Sends}
+use Rattle.line_parts.specs.Writes.{Sends}
 use Rattle.fsrm_program.specs.Progress.{State, IsHeld, Leads, Fed, Feeds, Broken, FeedsBroken}
 use Rattle.fsrm_program.specs.Stops.{Finishes, FinishesFront}
 use Rattle.fsrm_base.proofs.TestLaws.{nor}

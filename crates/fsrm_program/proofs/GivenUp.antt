@@ -3,9 +3,9 @@ use Rattle.std.proofs.Common.{◌≡◌, ℕ, ◌+◌, ◌-◌, ◌≤◌, List,
 use Rattle.std.specs.Prelude.{Option, Result, Ok, Err, IsErrOf}
 use Rattle.std.specs.Result.{IsErrAnd}
 use Rattle.fsrm_model.specs.values.Limits.{longest_script}
-use Rattle.reply_text.specs.declared.fault.TextFault.{TextFault}
-use Rattle.reply_text.specs.declared.fault.TextFault.TheVariants.{WriteFault as WriteFailed, NoMemory as MemoryOut}
-use Rattle.reply_text.specs.Writes.{KeepsCount}
+use Rattle.line_parts.specs.declared.fault.TextFault.{TextFault}
+use Rattle.line_parts.specs.declared.fault.TextFault.TheVariants.{WriteFault as WriteFailed, NoMemory as MemoryOut}
+use Rattle.line_parts.specs.Writes.{KeepsCount}
 use Rattle.fsrm_program.specs.declared.status.Status.{Status}
 use Rattle.fsrm_program.specs.declared.status.Status.TheVariants.{ReadFault, WriteFault, TooLong}
 use Rattle.fsrm_program.specs.Bytes.{Taken, TakenMost}

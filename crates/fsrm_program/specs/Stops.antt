@@ -5,8 +5,8 @@ use Rattle.fsrm_model.specs.values.Limits.{longest_script}
 use Rattle.fsrm_model.specs.lines.Script.{lines, text_from, cost_from}
 use Rattle.fsrm_program.specs.declared.status.Status.{Status}
 use Rattle.fsrm_program.specs.declared.status.Status.TheVariants.{Done, Usage, ReadFault, WriteFault, TooLong, NoMemory}
-use Rattle.reply_text.specs.declared.fault.TextFault.{TextFault}
-use Rattle.reply_text.specs.declared.fault.TextFault.TheVariants.{WriteFault as WriteFailed, NoMemory as MemoryOut}
+use Rattle.line_parts.specs.declared.fault.TextFault.{TextFault}
+use Rattle.line_parts.specs.declared.fault.TextFault.TheVariants.{WriteFault as WriteFailed, NoMemory as MemoryOut}
 use Rattle.fsrm_outside.specs.Shown.{IsFront}
 use Rattle.fsrm_program.specs.Bytes.{Taken, IsAtEnd}
 use Rattle.fsrm_program.specs.Progress.{State, IsHeld, Takes, Halts, Breaks, Ends}

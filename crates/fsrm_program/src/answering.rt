@@ -6,12 +6,13 @@ ghost use Rattle.fsrm_model.specs.commands.Cost.{acts_cost};
 ghost use Rattle.fsrm_model.specs.lines.Script.{without_cr, replied, replied_to, read_cost, line_cost};
 ghost use Rattle.fsrm_model.specs.store.Valid.{IsValid};
 ghost use Rattle.fsrm_model.specs.store.Valued.{is_command};
-ghost use Rattle.reply_text.specs.Writes.{Writes};
+ghost use Rattle.line_parts.specs.Writes.{Writes};
 
 use fsrm_engine::Engine;
 use fsrm_model::{Command, Ledger, Steps};
 use fsrm_outside::Sink;
-use reply_text::{TextFault, write_act, write_answer, write_head};
+use line_parts::TextFault;
+use reply_text::{write_act, write_answer, write_head};
 use std::alloc::Global;
 use tool_commands::{LineFault, is_skipped_line, read_line};
 

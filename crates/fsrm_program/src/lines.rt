@@ -5,7 +5,7 @@ ghost use Rattle.std.specs.List.{list_any};
 ghost use Rattle.fsrm_model.specs.values.Limits.{longest_line};
 ghost use Rattle.fsrm_model.specs.lines.Script.{is_end};
 ghost use Rattle.fsrm_program.specs.Bytes.{CutsLine};
-ghost use Rattle.reply_text.specs.Writes.{WritesTo};
+ghost use Rattle.line_parts.specs.Writes.{WritesTo};
 ghost use Rattle.fsrm_program.specs.Progress.{Fed, Feeds, FeedsBroken};
 ghost use Rattle.fsrm_program.specs.Held.{state_of};
 ghost use Rattle.fsrm_program.specs.Stops.{Finishes, FinishesFront};
@@ -15,8 +15,8 @@ use fsrm_engine::Engine;
 use fsrm_model::limits::LONGEST_LINE;
 use fsrm_model::{Ledger, NoMemory, Steps};
 use fsrm_outside::Sink;
+use line_parts::TextFault;
 use memchr::memchr;
-use reply_text::TextFault;
 use std::alloc::Global;
 
 const LINE_FEED: u8 = b'\n';

@@ -5,7 +5,7 @@ ghost use Rattle.std.specs.Option.{ForSome};
 ghost use Rattle.fsrm_model.specs.nodes.Fresh.{default_capacity, new_rows};
 ghost use Rattle.fsrm_model.specs.values.Limits.{longest_script};
 ghost use Rattle.fsrm_outside.specs.Causes.{Rose};
-ghost use Rattle.reply_text.specs.Writes.{WritesTo};
+ghost use Rattle.line_parts.specs.Writes.{WritesTo};
 ghost use Rattle.fsrm_program.specs.Bytes.{IsAtEnd, TakenMost};
 ghost use Rattle.fsrm_program.specs.Progress.{Takes, Feeds, FeedsBroken, start};
 ghost use Rattle.fsrm_program.specs.Held.{state_of};
@@ -19,7 +19,7 @@ use crate::status::Status;
 use fsrm_engine::Engine;
 use fsrm_model::{Capacity, Ledger, NoMemory, Steps};
 use fsrm_outside::{Outside, Sink};
-use reply_text::TextFault;
+use line_parts::TextFault;
 use std::alloc::Global;
 
 const PIECE: usize = 65_536;

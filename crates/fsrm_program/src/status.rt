@@ -2,7 +2,7 @@
 
 ghost use Rattle.std.specs.Prelude.{◌≡◌};
 
-use reply_text::TextFault;
+use line_parts::TextFault;
 
 /// How a run ended. What it wrote is, at every status, a prefix of the script's whole text.
 #[derive(Clone, Copy, Debug, PartialEq, Eq)]

@@ -28,7 +28,8 @@ use Rattle.fsrm_model.specs.objects.Thresholds.{actions_at}
 use Rattle.fsrm_model.specs.nodes.Tree.{number}
 use Rattle.fsrm_model.specs.store.Valid.{IsValid, are_entries, is_moment}
 use Rattle.fsrm_model.proofs.valid.ScreensKept.{screen_at}
-use Rattle.reply_text.specs.Lines.{act_text, entry_text, moment_text, subject_text}
+use Rattle.line_parts.specs.Moments.{moment_text}
+use Rattle.reply_text.specs.Lines.{act_text, entry_text, subject_text}
 use Rattle.reply_text.proofs.Nodes.{is_node}
 
 -- ---- entries of the log

@@ -1,6 +1,3 @@
-pub mod Each
-pub mod Moments
-pub mod Sent
 pub mod Nodes
 pub mod Quotas
 pub mod Answered

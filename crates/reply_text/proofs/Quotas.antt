@@ -26,7 +26,8 @@ use Rattle.fsrm_base.proofs.Look.{found_key, is_some-find}
 use Rattle.fsrm_base.proofs.Members.{filter_none}
 use Rattle.fsrm_base.proofs.Order.{parts}
 use Rattle.fsrm_base.proofs.TestLaws.{lt_is, eq_is, eq_same, eq_below, le_is}
-use Rattle.reply_text.specs.Lines.{moment_text, line_text, lines_text, threshold_text, used_word, quota_text}
+use Rattle.line_parts.specs.Moments.{moment_text}
+use Rattle.reply_text.specs.Lines.{line_text, lines_text, threshold_text, used_word, quota_text}
 
 -- the moment of a peak is one
 pub in_time : (K : Capacity) (R : Rows) (quota : QuotaRow) → IsValid K R → row_of folder_of quota.folder R.quotas ≡ Some quota → quota.peak_at ≤ latest_moment

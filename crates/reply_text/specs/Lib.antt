@@ -1,3 +1,1 @@
-pub mod Writes
-pub mod Parts
 pub mod Lines

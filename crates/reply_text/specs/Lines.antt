@@ -22,10 +22,7 @@ use Rattle.fsrm_model.specs.texts.Printed.{deep_line, labelled_line, type_word}
 use Rattle.fsrm_model.specs.texts.ScreenText.{do_line, except_lines, group_lines, named_line, screen_lines}
 use Rattle.fsrm_model.specs.texts.TemplateText.{auto_lines, template_lines}
 use Rattle.fsrm_model.specs.texts.Text.{body_line, quota_line, quota_lines, state_word}
-use Rattle.fsrm_model.specs.values.Date.{date_text}
-
-unfoldable pub moment_text : ℕ → List ℕ
-moment_text moment = date_text moment
+use Rattle.line_parts.specs.Moments.{moment_text}
 
 unfoldable pub line_text : Capacity → List NodeRow → QuotaRow → List ℕ
 line_text K nodes quota = quota_line K nodes quota

@@ -4,13 +4,12 @@ ghost use Rattle.std.specs.Prelude.{◌≡◌, ◌++◌, ◌∷◌, [], decimal,
 ghost use Rattle.fsrm_model.specs.texts.ActionWords.{minutes_word};
 ghost use Rattle.fsrm_model.specs.texts.Printed.{deep_line};
 ghost use Rattle.reply_text.specs.Lines.{action_line, do_text, threshold_text};
-ghost use Rattle.reply_text.specs.Parts.{part_text};
-ghost use Rattle.reply_text.specs.Writes.{Writes};
+ghost use Rattle.line_parts.specs.Parts.{part_text};
+ghost use Rattle.line_parts.specs.Writes.{Writes};
 
-use crate::fault::TextFault;
-use crate::sending::{Part, send};
 use fsrm_model::{Action, Threshold};
 use fsrm_outside::Sink;
+use line_parts::{Part, TextFault, send};
 
 // The sign of minutes, and their digits.
 fn minutes_parts<'a>(minutes: i32) -> (Part<'a>, Part<'a>)

@@ -6,16 +6,15 @@ ghost use Rattle.fsrm_model.specs.objects.Acts.{IsAct, folder_in};
 ghost use Rattle.fsrm_model.specs.commands.Cost.{path_cost};
 ghost use Rattle.fsrm_model.specs.values.Limits.{latest_moment};
 ghost use Rattle.fsrm_model.specs.store.Valid.{IsValid, are_entries};
-ghost use Rattle.reply_text.specs.Lines.{act_text, entry_text, moment_text, subject_text};
-ghost use Rattle.reply_text.specs.Parts.{part_text};
-ghost use Rattle.reply_text.specs.Writes.{Writes};
+ghost use Rattle.line_parts.specs.Moments.{moment_text};
+ghost use Rattle.reply_text.specs.Lines.{act_text, entry_text, subject_text};
+ghost use Rattle.line_parts.specs.Parts.{part_text};
+ghost use Rattle.line_parts.specs.Writes.{Writes};
 
-use crate::dates::moment_text;
-use crate::fault::TextFault;
-use crate::sending::{Part, send};
 use fsrm_engine::Engine;
 use fsrm_model::{Act, ActRow, Ledger, Steps, Subject};
 use fsrm_outside::Sink;
+use line_parts::{Part, TextFault, moment_text, send};
 use std::alloc::Global;
 use thresholds::Marks;
 

@@ -7,14 +7,14 @@ ghost use Rattle.fsrm_model.specs.declared.command.Ask.TheVariants.{Groups as Th
 ghost use Rattle.fsrm_model.specs.values.Patterns.{group_number};
 ghost use Rattle.fsrm_model.specs.texts.Text.{list_lines};
 ghost use Rattle.reply_text.specs.Lines.{group_text, named_text};
-ghost use Rattle.reply_text.specs.Writes.{Writes};
+ghost use Rattle.line_parts.specs.Writes.{Writes};
 
-use crate::fault::TextFault;
 use crate::lines::{write_each_labelled, write_labelled, write_word};
 use file_groups::Groups;
 use fsrm_engine::Engine;
 use fsrm_model::GroupRow;
 use fsrm_outside::Sink;
+use line_parts::TextFault;
 
 // Writes the lines of a group: its name, and its patterns.
 fn write_group<S: Sink>(sink: &mut S, group: &GroupRow) -> Result<(), TextFault>

@@ -5,12 +5,11 @@ ghost use Rattle.fsrm_model.specs.declared.command.Outcome.TheVariants.{Done, Re
 ghost use Rattle.fsrm_model.specs.declared.row.NodeRow.{NodeRow};
 ghost use Rattle.fsrm_model.specs.texts.Text.{body_line, done_words, head_line, is_bare, line_of, refusal_words};
 ghost use Rattle.reply_text.specs.Lines.{carries_column};
-ghost use Rattle.reply_text.specs.Writes.{Writes};
+ghost use Rattle.line_parts.specs.Writes.{Writes};
 
-use crate::fault::TextFault;
-use crate::sending::{Part, send, send_short, send_short_with};
 use fsrm_model::Refusal;
 use fsrm_outside::Sink;
+use line_parts::{Part, TextFault, send, send_short, send_short_with};
 use std::alloc::Global;
 
 /// Writes the first line of a reply to a line that was done.

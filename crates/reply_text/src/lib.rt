@@ -7,8 +7,6 @@
 
 mod actions;
 mod acts;
-mod dates;
-mod fault;
 mod groups;
 mod heads;
 mod lines;
@@ -16,10 +14,8 @@ mod lists;
 mod quota_templates;
 mod replies;
 mod screens;
-mod sending;
 
 pub use acts::write_act;
-pub use fault::TextFault;
 pub use heads::write_head;
 pub use lists::write_list;
 pub use replies::write_answer;

@@ -3,12 +3,11 @@
 ghost use Rattle.std.specs.Prelude.{◌∷◌, [], flat_map};
 ghost use Rattle.fsrm_model.specs.texts.Printed.{body_line};
 ghost use Rattle.reply_text.specs.Lines.{labelled_text};
-ghost use Rattle.reply_text.specs.Writes.{Writes};
+ghost use Rattle.line_parts.specs.Writes.{Writes};
 
-use crate::fault::TextFault;
-use crate::sending::{Part, send};
 use fsrm_model::Text;
 use fsrm_outside::Sink;
+use line_parts::{Part, TextFault, send};
 
 /// Writes a line that a word stands on alone: a group's name, or the path of the folder of an exception or an
 /// auto-apply quota.

@@ -12,21 +12,20 @@ ghost use Rattle.fsrm_model.specs.objects.Quota.{folder_of};
 ghost use Rattle.fsrm_model.specs.texts.Text as Words;
 ghost use Rattle.fsrm_model.specs.texts.Text.{list_lines};
 ghost use Rattle.fsrm_model.specs.store.Valid.{IsValid};
-ghost use Rattle.reply_text.specs.Lines.{moment_text, used_word, quota_text, lines_text};
-ghost use Rattle.reply_text.specs.Parts.{part_text};
-ghost use Rattle.reply_text.specs.Writes.{Writes};
+ghost use Rattle.line_parts.specs.Moments.{moment_text};
+ghost use Rattle.reply_text.specs.Lines.{used_word, quota_text, lines_text};
+ghost use Rattle.line_parts.specs.Parts.{part_text};
+ghost use Rattle.line_parts.specs.Writes.{Writes};
 
 use crate::actions::write_thresholds;
 use crate::acts::write_log;
-use crate::dates::moment_text;
-use crate::fault::TextFault;
 use crate::groups::write_groups;
 use crate::quota_templates::{write_autos, write_templates};
 use crate::screens::{write_excepts, write_screens};
-use crate::sending::{Part, send};
 use fsrm_engine::Engine;
 use fsrm_model::{Ask, Ledger, QuotaRow, QuotaState, Steps};
 use fsrm_outside::Sink;
+use line_parts::{Part, TextFault, moment_text, send};
 use std::alloc::Global;
 
 /// The type of a quota or of a template.

@@ -9,16 +9,15 @@ ghost use Rattle.fsrm_model.specs.texts.Printed.{body_line, type_word};
 ghost use Rattle.fsrm_model.specs.texts.Text.{list_lines};
 ghost use Rattle.fsrm_model.specs.store.Valid.{IsValid};
 ghost use Rattle.reply_text.specs.Lines.{auto_text, template_text};
-ghost use Rattle.reply_text.specs.Writes.{Writes};
+ghost use Rattle.line_parts.specs.Writes.{Writes};
 
 use crate::actions::write_thresholds;
-use crate::fault::TextFault;
 use crate::lines::{write_each_labelled, write_labelled, write_word};
 use crate::lists::type_word;
-use crate::sending::{Part, send};
 use fsrm_engine::Engine;
 use fsrm_model::{AutoRow, Ledger, Steps, TemplateRow};
 use fsrm_outside::Sink;
+use line_parts::{Part, TextFault, send};
 use std::alloc::Global;
 
 // Writes the first line of a template: its limit, its type and its name.

@@ -6,9 +6,8 @@ ghost use Rattle.fsrm_model.specs.commands.Cost.{print_cost};
 ghost use Rattle.fsrm_model.specs.meaning.Named.{IsNamed};
 ghost use Rattle.fsrm_model.specs.texts.Text.{is_report, head_line, reply};
 ghost use Rattle.reply_text.specs.Lines.{is_listing};
-ghost use Rattle.reply_text.specs.Writes.{Writes};
+ghost use Rattle.line_parts.specs.Writes.{Writes};
 
-use crate::fault::TextFault;
 use crate::heads::{
     write_blocked, write_exceeded, write_head, write_ok, write_passive, write_sum, write_visited,
 };
@@ -16,6 +15,7 @@ use crate::lists::write_list;
 use fsrm_engine::Engine;
 use fsrm_model::{Answer, Ledger, Outcome, Refusal, Steps, Table};
 use fsrm_outside::Sink;
+use line_parts::TextFault;
 use std::alloc::Global;
 
 // Writes the reply to a line that is refused.

@@ -10,16 +10,15 @@ ghost use Rattle.fsrm_model.specs.texts.ScreenText.{mode_word};
 ghost use Rattle.fsrm_model.specs.texts.Text.{list_lines};
 ghost use Rattle.fsrm_model.specs.store.Valid.{IsValid};
 ghost use Rattle.reply_text.specs.Lines.{except_text, screen_text};
-ghost use Rattle.reply_text.specs.Writes.{Writes};
+ghost use Rattle.line_parts.specs.Writes.{Writes};
 
 use crate::actions::write_dos;
-use crate::fault::TextFault;
 use crate::groups::write_names;
 use crate::lines::write_word;
-use crate::sending::{Part, send};
 use fsrm_engine::Engine;
 use fsrm_model::{ExceptRow, Ledger, ScreenRow, Steps};
 use fsrm_outside::Sink;
+use line_parts::{Part, TextFault, send};
 use std::alloc::Global;
 
 fn mode_word(active: bool) -> &'static [u8]

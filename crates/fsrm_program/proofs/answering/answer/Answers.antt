@@ -1,4 +1,4 @@
-use Rattle.reply_text.proofs.Sent.{none_written, told}
+use Rattle.line_parts.proofs.Sent.{none_written, told}
 use Rattle.fsrm_program.proofs.Outcomes.{rows_skipped, text_skipped}
 use Rattle.fsrm_program.proofs.answering.answer.Goals as goal
 

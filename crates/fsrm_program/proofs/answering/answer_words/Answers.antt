@@ -1,6 +1,6 @@
 use Rattle.std.proofs.Common.{refl, arith}
 use Rattle.fsrm_model.specs.lines.Line.{read_line}
-use Rattle.reply_text.proofs.Sent.{none_written, told, unwritten}
+use Rattle.line_parts.proofs.Sent.{none_written, told, unwritten}
 use Rattle.fsrm_program.proofs.Outcomes.{on_ok, always_ok, was_read, was_skipped, was_refused, rows_read, text_read, cost_read, rows_skipped, text_skipped, rows_refused, text_refused, bare_refusal}
 use Rattle.fsrm_program.proofs.answering.answer_words.Goals as goal
 

@@ -1,5 +1,5 @@
 use Rattle.std.proofs.Common.{◌∙◌, sym}
-use Rattle.reply_text.proofs.Sent.{cut_first, passed_on, told, two_texts, unwritten}
+use Rattle.line_parts.proofs.Sent.{cut_first, passed_on, told, two_texts, unwritten}
 use Rattle.fsrm_program.proofs.Handing.{calm_step, reply_alone, reply_is, looks_of_all, looks_of_reply, looks_of_step}
 use Rattle.fsrm_program.proofs.Outcomes.{always_ok, step_reply}
 use Rattle.fsrm_program.proofs.answering.take.Goals as goal

@@ -2,7 +2,7 @@ use Rattle.std.proofs.Common.{List, [], ◌∷◌, ◌++◌, length, refl, ap, �
 use Rattle.fsrm_model.specs.declared.command.Act.{Act}
 use Rattle.fsrm_model.specs.texts.ActText.{act_lines}
 use Rattle.fsrm_engine.specs.Machine.{Machine}
-use Rattle.reply_text.proofs.Sent.{cut_second, none_written, passed_on, told, two_texts}
+use Rattle.line_parts.proofs.Sent.{cut_second, none_written, passed_on, told, two_texts}
 use Rattle.fsrm_program.proofs.Handing.{one_handed, all_handed, line_is, lines_are, looks_more, looks_broken, valid_still}
 use Rattle.fsrm_program.proofs.answering.write_acts.Goals as goal
 

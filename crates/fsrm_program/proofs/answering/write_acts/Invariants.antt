@@ -2,7 +2,7 @@ use Rattle.std.proofs.Common.{◌≡◌, ◌+◌, ◌≤◌, List, ◌++◌, len
 use Rattle.fsrm_model.specs.declared.command.Act.{Act}
 use Rattle.fsrm_model.specs.texts.ActText.{act_lines}
 use Rattle.fsrm_model.specs.commands.Cost.{acts_cost}
-use Rattle.reply_text.proofs.Each.{Written}
+use Rattle.line_parts.proofs.Each.{Written}
 use Rattle.fsrm_program.proofs.answering.write_acts.Given as goal
 
 -- the acts that were handed out are written

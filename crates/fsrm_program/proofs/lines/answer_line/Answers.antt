@@ -1,5 +1,5 @@
 use Rattle.std.proofs.Common.{refl, ◌+◌, ◌∷◌, ◌++◌, []}
-use Rattle.reply_text.proofs.Sent.{unwritten}
+use Rattle.line_parts.proofs.Sent.{unwritten}
 use Rattle.fsrm_program.specs.Held.{state_of}
 use Rattle.fsrm_program.proofs.Feeding.{feeds_line, broken_line, broken_still, says_line}
 use Rattle.fsrm_program.proofs.Outcomes.{always_err}

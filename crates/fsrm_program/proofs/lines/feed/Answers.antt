@@ -1,5 +1,5 @@
 use Rattle.std.proofs.Common.{◌++◌, ◌∷◌, [], List, ℕ, refl, sym, ◌∙◌, subst, arith, length-append}
-use Rattle.reply_text.proofs.Sent.{device_passed_on, device_then, none_written, unwritten}
+use Rattle.line_parts.proofs.Sent.{device_passed_on, device_then, none_written, unwritten}
 use Rattle.fsrm_program.specs.Progress.{Feeds, FeedsBroken}
 use Rattle.fsrm_program.specs.Held.{state_of}
 use Rattle.fsrm_program.proofs.Cutting.{cut_more}

@@ -1,6 +1,6 @@
 use Rattle.std.proofs.Common.{◌≡◌, ◌≤◌, ◌+◌, ◌++◌, [], List, ℕ, length}
 use Rattle.std.specs.Prelude.{Ok}
-use Rattle.reply_text.specs.Writes.{WritesTo}
+use Rattle.line_parts.specs.Writes.{WritesTo}
 use Rattle.fsrm_program.specs.Progress.{Feeds}
 use Rattle.fsrm_program.specs.Held.{state_of}
 use Rattle.fsrm_program.proofs.lines.feed.Given as goal

@@ -2,8 +2,8 @@ use Rattle.std.proofs.Common.{◌∙◌, subst, ℕ}
 use Rattle.std.specs.Prelude.{take, IsErrOf}
 use Rattle.std.proofs.lemmas.Result.{err_from_is_err_and}
 use Rattle.fsrm_outside.specs.Causes.{Rose}
-use Rattle.reply_text.specs.declared.fault.TextFault.TheVariants.{WriteFault as WriteFailed}
-use Rattle.reply_text.specs.Writes.{KeepsCount}
+use Rattle.line_parts.specs.declared.fault.TextFault.TheVariants.{WriteFault as WriteFailed}
+use Rattle.line_parts.specs.Writes.{KeepsCount}
 use Rattle.fsrm_program.specs.declared.status.Status.TheVariants.{ReadFault, WriteFault, TooLong}
 use Rattle.fsrm_program.specs.Held.{state_of}
 use Rattle.fsrm_program.proofs.GivenUp.{stops_given_up, taken_given_up, told, no_read_failed, not_too_long, keeps_reads, write_failed, keeps_writes}

@@ -1,8 +1,8 @@
 use Rattle.std.proofs.Common.{◌∙◌, ap, rules, SFits, to_z-of_z, w32}
 use Rattle.fsrm_model.specs.texts.ActionWords.{minutes_word}
-use Rattle.reply_text.specs.Parts.{part_text}
+use Rattle.line_parts.specs.Parts.{part_text}
 use Rattle.reply_text.proofs.ActionLines.{action_shown}
-use Rattle.reply_text.proofs.Sent.{told}
+use Rattle.line_parts.proofs.Sent.{told}
 use Rattle.reply_text.proofs.actions.write_action.Goals as goal
 
 pub returns : goal.returns

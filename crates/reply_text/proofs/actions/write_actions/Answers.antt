@@ -1,8 +1,8 @@
 use Rattle.std.proofs.Common.{refl}
 use Rattle.std.proofs.lemmas.Option.{slice_get_read}
 use Rattle.reply_text.specs.Lines.{action_line}
-use Rattle.reply_text.proofs.Each.{writes_one, writes_one_front}
-use Rattle.reply_text.proofs.Sent.{passed_on}
+use Rattle.line_parts.proofs.Each.{writes_one, writes_one_front}
+use Rattle.line_parts.proofs.Sent.{passed_on}
 use Rattle.reply_text.proofs.actions.write_actions.Goals as goal
 
 pub returns-in_err-write_action : goal.returns-in_err-write_action

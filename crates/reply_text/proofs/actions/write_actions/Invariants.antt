@@ -1,7 +1,7 @@
 use Rattle.std.proofs.Common.{take}
 use Rattle.std.specs.Prelude.{flat_map}
 use Rattle.reply_text.specs.Lines.{action_line}
-use Rattle.reply_text.proofs.Each.{Written}
+use Rattle.line_parts.proofs.Each.{Written}
 use Rattle.reply_text.proofs.actions.write_actions.Given as goal
 
 -- the lines up to a place are shown

@@ -1,6 +1,6 @@
 use Rattle.std.proofs.Common.{◌∙◌, sym}
 use Rattle.reply_text.proofs.ActionLines.{bare_shown, actions_shown}
-use Rattle.reply_text.proofs.Sent.{told}
+use Rattle.line_parts.proofs.Sent.{told}
 use Rattle.reply_text.proofs.actions.write_threshold.Goals as goal
 
 pub returns-then-is_empty : goal.returns-then-is_empty

@@ -4,7 +4,7 @@ use Rattle.fsrm_model.specs.commands.Cost.{path_cost}
 use Rattle.fsrm_model.specs.texts.Printed.{path_text}
 use Rattle.fsrm_model.specs.nodes.Tree.{number}
 use Rattle.reply_text.proofs.ActLines.{act_node, act_same}
-use Rattle.reply_text.proofs.Sent.{told}
+use Rattle.line_parts.proofs.Sent.{told}
 use Rattle.reply_text.proofs.acts.write_act.Goals as goal
 
 pub path_text-requires : goal.path_text-requires

@@ -1,7 +1,7 @@
 use Rattle.std.proofs.Common.{◌∙◌}
-use Rattle.reply_text.specs.Parts.{part_text}
+use Rattle.line_parts.specs.Parts.{part_text}
 use Rattle.reply_text.proofs.ActLines.{entry_shown}
-use Rattle.reply_text.proofs.Sent.{told}
+use Rattle.line_parts.proofs.Sent.{told}
 use Rattle.reply_text.proofs.acts.write_dated.Goals as goal
 
 pub returns : goal.returns

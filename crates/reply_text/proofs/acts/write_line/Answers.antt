@@ -1,6 +1,6 @@
 use Rattle.std.proofs.Common.{◌∙◌}
 use Rattle.reply_text.proofs.ActLines.{quota_act, screen_act}
-use Rattle.reply_text.proofs.Sent.{told}
+use Rattle.line_parts.proofs.Sent.{told}
 use Rattle.reply_text.proofs.acts.write_line.Goals as goal
 
 pub returns-in-Quota : goal.returns-in-Quota

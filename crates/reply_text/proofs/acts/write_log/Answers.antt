@@ -1,7 +1,7 @@
 use Rattle.reply_text.specs.Lines.{entry_text}
 use Rattle.reply_text.proofs.ActLines.{entry_in_time}
-use Rattle.reply_text.proofs.Each.{writes_one, writes_one_front}
-use Rattle.reply_text.proofs.Sent.{passed_on}
+use Rattle.line_parts.proofs.Each.{writes_one, writes_one_front}
+use Rattle.line_parts.proofs.Sent.{passed_on}
 use Rattle.reply_text.proofs.acts.write_log.Goals as goal
 
 pub write_entry-requires : goal.write_entry-requires

@@ -1,6 +1,6 @@
 use Rattle.std.proofs.Common.{refl}
 use Rattle.reply_text.proofs.ScreenLines.{group_shown}
-use Rattle.reply_text.proofs.Sent.{cut_first, cut_second, passed_on, three_texts}
+use Rattle.line_parts.proofs.Sent.{cut_first, cut_second, passed_on, three_texts}
 use Rattle.reply_text.proofs.groups.write_group.Goals as goal
 
 pub returns-in_err-write_word : goal.returns-in_err-write_word

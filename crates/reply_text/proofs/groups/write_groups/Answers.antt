@@ -1,9 +1,9 @@
 use Rattle.std.proofs.Common.{List, length, refl, ap, arith}
 use Rattle.fsrm_model.specs.declared.row.GroupRow.{GroupRow}
 use Rattle.reply_text.specs.Lines.{group_text}
-use Rattle.reply_text.proofs.Each.{writes_all, writes_one, writes_one_front}
+use Rattle.line_parts.proofs.Each.{writes_all, writes_one, writes_one_front}
 use Rattle.reply_text.proofs.ScreenLines.{all_groups}
-use Rattle.reply_text.proofs.Sent.{passed_on, told}
+use Rattle.line_parts.proofs.Sent.{passed_on, told}
 use Rattle.reply_text.proofs.groups.write_groups.Goals as goal
 
 pub returns-in_err-write_group : goal.returns-in_err-write_group

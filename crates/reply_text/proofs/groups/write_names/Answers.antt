@@ -3,9 +3,9 @@ use Rattle.fsrm_base.specs.Keyed.{has_row}
 use Rattle.fsrm_model.specs.values.Patterns.{group_number}
 use Rattle.reply_text.specs.Lines.{named_text}
 use Rattle.reply_text.proofs.ActLines.{all_at}
-use Rattle.reply_text.proofs.Each.{writes_one, writes_one_front}
+use Rattle.line_parts.proofs.Each.{writes_one, writes_one_front}
 use Rattle.reply_text.proofs.ScreenLines.{named_is}
-use Rattle.reply_text.proofs.Sent.{passed_on, told}
+use Rattle.line_parts.proofs.Sent.{passed_on, told}
 use Rattle.reply_text.proofs.groups.write_names.Goals as goal
 
 pub group-requires : goal.group-requires

@@ -1,6 +1,6 @@
 use Rattle.std.proofs.Common.{◌∙◌}
 use Rattle.reply_text.proofs.LabelledLines.{labelled_shown}
-use Rattle.reply_text.proofs.Sent.{told}
+use Rattle.line_parts.proofs.Sent.{told}
 use Rattle.reply_text.proofs.lines.write_labelled.Goals as goal
 
 pub returns : goal.returns

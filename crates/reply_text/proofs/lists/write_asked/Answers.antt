@@ -5,7 +5,7 @@ use Rattle.fsrm_model.specs.declared.command.Outcome.TheVariants.{Listing}
 use Rattle.fsrm_model.specs.commands.Cost.{list_cost}
 use Rattle.fsrm_model.specs.meaning.Named.{IsNamed}
 use Rattle.fsrm_model.specs.texts.Text.{list_lines}
-use Rattle.reply_text.proofs.Sent.{told}
+use Rattle.line_parts.proofs.Sent.{told}
 use Rattle.reply_text.proofs.Quotas.{lent_found, lent_row, own_row, all_lines, one_line, one_cost}
 use Rattle.reply_text.proofs.lists.write_asked.Goals as goal
 

@@ -1,6 +1,6 @@
-use Rattle.reply_text.specs.Parts.{part_text}
+use Rattle.line_parts.specs.Parts.{part_text}
 use Rattle.reply_text.proofs.Quotas.{row_shown}
-use Rattle.reply_text.proofs.Sent.{told}
+use Rattle.line_parts.proofs.Sent.{told}
 use Rattle.reply_text.proofs.lists.write_line.Goals as goal
 
 pub returns : goal.returns

@@ -2,7 +2,7 @@ use Rattle.std.proofs.Common.{◌∙◌, ap, sym}
 use Rattle.fsrm_model.specs.texts.Text.{list_lines}
 use Rattle.fsrm_model.specs.store.Valid.{are_entries}
 use Rattle.reply_text.proofs.ActLines.{all_entries}
-use Rattle.reply_text.proofs.Sent.{told}
+use Rattle.line_parts.proofs.Sent.{told}
 use Rattle.reply_text.proofs.lists.write_list.Goals as goal
 
 pub write_log-requires : goal.write_log-requires

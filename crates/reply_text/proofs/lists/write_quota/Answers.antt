@@ -2,7 +2,7 @@ use Rattle.std.proofs.Common.{◌≡◌, ◌∙◌, refl}
 use Rattle.reply_text.specs.Lines.{line_text, quota_text}
 use Rattle.reply_text.proofs.Nodes.{is_node}
 use Rattle.reply_text.proofs.Quotas.{in_time, line_same, lines_shown}
-use Rattle.reply_text.proofs.Sent.{cut_first, passed_on, two_texts}
+use Rattle.line_parts.proofs.Sent.{cut_first, passed_on, two_texts}
 use Rattle.reply_text.proofs.lists.write_quota.Goals as goal
 
 pub path_text-requires : goal.path_text-requires

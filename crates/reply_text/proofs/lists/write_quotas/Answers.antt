@@ -4,8 +4,8 @@ use Rattle.fsrm_model.specs.declared.row.QuotaRow.{QuotaRow}
 use Rattle.fsrm_model.specs.commands.Cost.{path_cost}
 use Rattle.fsrm_model.specs.objects.Quota.{folder_of}
 use Rattle.reply_text.specs.Lines.{lines_text}
-use Rattle.reply_text.proofs.Each.{writes_one, writes_one_front}
-use Rattle.reply_text.proofs.Sent.{passed_on}
+use Rattle.line_parts.proofs.Each.{writes_one, writes_one_front}
+use Rattle.line_parts.proofs.Sent.{passed_on}
 use Rattle.reply_text.proofs.Quotas.{at_place, sum_more}
 use Rattle.reply_text.proofs.lists.write_quotas.Goals as goal
 

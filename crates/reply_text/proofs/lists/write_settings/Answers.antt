@@ -3,7 +3,7 @@ use Rattle.fsrm_model.specs.declared.row.Capacity.{Capacity}
 use Rattle.fsrm_model.specs.declared.row.NodeRow.{NodeRow}
 use Rattle.fsrm_model.specs.nodes.Tree.{name_bytes}
 use Rattle.std.specs.Prelude.{List}
-use Rattle.reply_text.proofs.Sent.{told}
+use Rattle.line_parts.proofs.Sent.{told}
 use Rattle.reply_text.proofs.Settings.{settings_shown}
 use Rattle.reply_text.proofs.lists.write_settings.Goals as goal
 

@@ -1,6 +1,6 @@
 use Rattle.std.proofs.Common.{◌∙◌, refl}
 use Rattle.reply_text.proofs.TemplateLines.{auto_node, auto_shown, auto_source, source_is, source_lent}
-use Rattle.reply_text.proofs.Sent.{cut_first, cut_second, passed_on, three_texts}
+use Rattle.line_parts.proofs.Sent.{cut_first, cut_second, passed_on, three_texts}
 use Rattle.reply_text.proofs.quota_templates.write_auto.Goals as goal
 
 pub path_text-requires : goal.path_text-requires

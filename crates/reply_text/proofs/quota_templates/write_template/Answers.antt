@@ -1,6 +1,6 @@
 use Rattle.std.proofs.Common.{refl}
 use Rattle.reply_text.proofs.TemplateLines.{template_shown}
-use Rattle.reply_text.proofs.Sent.{cut_first, passed_on, two_texts}
+use Rattle.line_parts.proofs.Sent.{cut_first, passed_on, two_texts}
 use Rattle.reply_text.proofs.quota_templates.write_template.Goals as goal
 
 pub returns-in_err-write_head : goal.returns-in_err-write_head

@@ -1,9 +1,9 @@
 use Rattle.std.proofs.Common.{List, length, refl, ap, arith}
 use Rattle.fsrm_model.specs.declared.row.TemplateRow.{TemplateRow}
 use Rattle.reply_text.specs.Lines.{template_text}
-use Rattle.reply_text.proofs.Each.{writes_all, writes_one, writes_one_front}
+use Rattle.line_parts.proofs.Each.{writes_all, writes_one, writes_one_front}
 use Rattle.reply_text.proofs.TemplateLines.{all_templates}
-use Rattle.reply_text.proofs.Sent.{passed_on, told}
+use Rattle.line_parts.proofs.Sent.{passed_on, told}
 use Rattle.reply_text.proofs.quota_templates.write_templates.Goals as goal
 
 pub returns-in_err-write_template : goal.returns-in_err-write_template

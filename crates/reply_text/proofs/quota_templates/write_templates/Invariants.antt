@@ -1,7 +1,7 @@
 use Rattle.std.proofs.Common.{take}
 use Rattle.std.specs.Prelude.{flat_map}
 use Rattle.reply_text.specs.Lines.{template_text}
-use Rattle.reply_text.proofs.Each.{Written}
+use Rattle.line_parts.proofs.Each.{Written}
 use Rattle.reply_text.proofs.quota_templates.write_templates.Given as goal
 
 -- the lines up to a place are shown

@@ -1,4 +1,4 @@
-use Rattle.reply_text.proofs.Sent.{cut_first, passed_on, two_texts}
+use Rattle.line_parts.proofs.Sent.{cut_first, passed_on, two_texts}
 use Rattle.reply_text.proofs.Answered.{list_text}
 use Rattle.reply_text.proofs.replies.write_answer.Goals as goal
 

@@ -2,7 +2,7 @@ use Rattle.std.proofs.Common.{◌≡◌, ◌∙◌, ap}
 use Rattle.std.specs.Prelude.{Some, None}
 use Rattle.fsrm_model.specs.declared.command.Outcome.TheVariants.{Done}
 use Rattle.reply_text.proofs.Answered.{done_text, passive_text, sum_text, visited_text, refused_text}
-use Rattle.reply_text.proofs.Sent.{told, unwritten}
+use Rattle.line_parts.proofs.Sent.{told, unwritten}
 use Rattle.reply_text.proofs.replies.write_one.Goals as goal
 
 pub returns-in-Done-None-clause-writes : goal.returns-in-Done-None-clause-writes

@@ -1,6 +1,6 @@
 use Rattle.std.proofs.Common.{◌∙◌, refl}
 use Rattle.reply_text.proofs.ScreenLines.{except_groups, except_node, except_shown}
-use Rattle.reply_text.proofs.Sent.{cut_first, passed_on, two_texts}
+use Rattle.line_parts.proofs.Sent.{cut_first, passed_on, two_texts}
 use Rattle.reply_text.proofs.screens.write_except.Goals as goal
 
 pub path_text-requires : goal.path_text-requires

@@ -4,8 +4,8 @@ use Rattle.fsrm_model.specs.declared.row.ExceptRow.{ExceptRow}
 use Rattle.fsrm_model.specs.commands.Cost.{path_cost}
 use Rattle.fsrm_model.specs.objects.Screens.{except_folder}
 use Rattle.reply_text.specs.Lines.{except_text}
-use Rattle.reply_text.proofs.Each.{writes_all, writes_one, writes_one_front}
-use Rattle.reply_text.proofs.Sent.{passed_on, told}
+use Rattle.line_parts.proofs.Each.{writes_all, writes_one, writes_one_front}
+use Rattle.line_parts.proofs.Sent.{passed_on, told}
 use Rattle.reply_text.proofs.Quotas.{at_place, sum_more}
 use Rattle.reply_text.proofs.ScreenLines.{all_excepts, excepts_ascend}
 use Rattle.reply_text.proofs.screens.write_excepts.Goals as goal

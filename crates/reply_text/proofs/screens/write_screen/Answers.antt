@@ -1,6 +1,6 @@
 use Rattle.std.proofs.Common.{◌∙◌, refl}
 use Rattle.reply_text.proofs.ScreenLines.{screen_groups, screen_node, screen_shown}
-use Rattle.reply_text.proofs.Sent.{cut_first, cut_second, passed_on, three_texts}
+use Rattle.line_parts.proofs.Sent.{cut_first, cut_second, passed_on, three_texts}
 use Rattle.reply_text.proofs.screens.write_screen.Goals as goal
 
 pub path_text-requires : goal.path_text-requires

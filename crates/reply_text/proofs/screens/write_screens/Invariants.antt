@@ -2,7 +2,7 @@ use Rattle.std.proofs.Common.{◌+◌, ◌≤◌, take}
 use Rattle.std.specs.Prelude.{flat_map, sum_by}
 use Rattle.fsrm_model.specs.commands.Cost.{path_cost}
 use Rattle.reply_text.specs.Lines.{screen_text}
-use Rattle.reply_text.proofs.Each.{Written}
+use Rattle.line_parts.proofs.Each.{Written}
 use Rattle.reply_text.proofs.screens.write_screens.Given as goal
 
 -- the lines up to a place are shown

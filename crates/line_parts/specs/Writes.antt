@@ -4,8 +4,8 @@ use Rattle.std.specs.Io.KnownBytes.{append_known}
 use Rattle.fsrm_outside.specs.declared.traits.Sink.{Ghosts as Sink}
 use Rattle.fsrm_outside.specs.Causes.{Rose}
 use Rattle.fsrm_outside.specs.Shown.{ShowsFront}
-use Rattle.reply_text.specs.declared.fault.TextFault.{TextFault}
-use Rattle.reply_text.specs.declared.fault.TextFault.TheVariants.{WriteFault, NoMemory}
+use Rattle.line_parts.specs.declared.fault.TextFault.{TextFault}
+use Rattle.line_parts.specs.declared.fault.TextFault.TheVariants.{WriteFault, NoMemory}
 
 -- the whole text is shown if it was written, and else a front of it
 abbrev pub Sends : {T E : Type 0} → Result T E → Option (List ℕ) → Option (List ℕ) → List ℕ → Type 0

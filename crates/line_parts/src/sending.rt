@@ -1,8 +1,8 @@
 //! Sends lines to a sink: a short one whole, and the parts of another one after another.
 
 ghost use Rattle.std.specs.Prelude.{◌≡◌, ◌≤◌, ◌+◌, ◌++◌, ◌∷◌, [], decimal, drop, flat_map, length};
-ghost use Rattle.reply_text.specs.Parts.{part_text};
-ghost use Rattle.reply_text.specs.Writes.{Writes};
+ghost use Rattle.line_parts.specs.Parts.{part_text};
+ghost use Rattle.line_parts.specs.Writes.{Writes};
 
 use crate::fault::TextFault;
 use fsrm_outside::{Sink, write_all};
@@ -40,7 +40,8 @@ fn send_number<S: Sink>(sink: &mut S, number: u64) -> Result<(), TextFault>
     send_bytes(sink, &digits[start..])
 }
 
-fn send_part<S: Sink>(sink: &mut S, part: &Part) -> Result<(), TextFault>
+/// Writes a part whole, or a front of it if the sink fails.
+pub fn send_part<S: Sink>(sink: &mut S, part: &Part) -> Result<(), TextFault>
     ensures writes { Writes S.Sink result sink.old sink.new (part_text part.now) }
 {
     match *part {

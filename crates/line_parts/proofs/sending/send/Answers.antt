@@ -1,9 +1,9 @@
 use Rattle.std.proofs.lemmas.Option.{slice_get-get_or}
-use Rattle.reply_text.specs.declared.sending.Part.TheVariants.{Number}
-use Rattle.reply_text.specs.Parts.{part_text}
-use Rattle.reply_text.proofs.Each.{writes_one_front}
-use Rattle.reply_text.proofs.Sent.{passed_on}
-use Rattle.reply_text.proofs.sending.send.Goals as goal
+use Rattle.line_parts.specs.declared.sending.Part.TheVariants.{Number}
+use Rattle.line_parts.specs.Parts.{part_text}
+use Rattle.line_parts.proofs.Each.{writes_one_front}
+use Rattle.line_parts.proofs.Sent.{passed_on}
+use Rattle.line_parts.proofs.sending.send.Goals as goal
 
 pub returns-in_err-send_part : goal.returns-in_err-send_part
 returns-in_err-send_part g c =

@@ -1,8 +1,8 @@
 use Rattle.std.proofs.Common.{take}
 use Rattle.std.specs.Prelude.{flat_map}
-use Rattle.reply_text.specs.Parts.{part_text}
-use Rattle.reply_text.proofs.Each.{Written}
-use Rattle.reply_text.proofs.sending.send.Given as goal
+use Rattle.line_parts.specs.Parts.{part_text}
+use Rattle.line_parts.proofs.Each.{Written}
+use Rattle.line_parts.proofs.sending.send.Given as goal
 
 -- the parts up to a place are shown
 abbrev pub invariant-parts : goal.invariant-parts

@@ -5,7 +5,7 @@ use Rattle.std.proofs.lemmas.List.{append-nil, drop_at, take_at}
 use Rattle.jiff_core.specs.Calendar.{IsCivilDate, days_from_civil}
 use Rattle.fsrm_model.specs.values.Date.{Civil, date_of, day_text, time_text}
 use Rattle.fsrm_model.proofs.DateLaws.{IsOnly, date_only}
-use Rattle.reply_text.specs.Lines.{moment_text}
+use Rattle.line_parts.specs.Moments.{moment_text}
 
 same_text : (y : ℤ) (m d : ℕ) (date : Civil) → IsOnly y m d date → day_text (record { year = unsigned_abs y; month = m; day = d }) ≡ day_text date
 same_text y m d date h =

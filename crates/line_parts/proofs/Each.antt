@@ -6,9 +6,9 @@ use Rattle.std.proofs.lemmas.Grind.{flat_map-append}
 use Rattle.std.proofs.lemmas.List.{take_all, take_more, take-append-drop, append-nil}
 use Rattle.std.proofs.lemmas.Option.{get_or_from_slice_get, slice_get_within}
 use Rattle.fsrm_outside.specs.declared.traits.Sink.{Ghosts as Sink}
-use Rattle.reply_text.specs.declared.fault.TextFault.{TextFault}
-use Rattle.reply_text.specs.Writes.{Writes}
-use Rattle.reply_text.proofs.Sent.{JoinsWrites, told, writes_front, writes_then}
+use Rattle.line_parts.specs.declared.fault.TextFault.{TextFault}
+use Rattle.line_parts.specs.Writes.{Writes}
+use Rattle.line_parts.proofs.Sent.{JoinsWrites, told, writes_front, writes_then}
 
 -- the texts up to a place, and one more
 flat_more : {X : Type 0} (f : X → List ℕ) (items : List X) (k : ℕ) (x : X) → slice_get items k ≡ Some x → flat_map f (take (k + 1) items) ≡ flat_map f (take k items) ++ f x

@@ -5,7 +5,7 @@ ghost use Rattle.jiff_core.specs.Date.{epoch_day};
 ghost use Rattle.fsrm_model.specs.values.Date as Dates;
 ghost use Rattle.fsrm_model.specs.values.Date.{day_text};
 ghost use Rattle.fsrm_model.specs.values.Limits.{latest_moment};
-ghost use Rattle.reply_text.specs.Lines.{moment_text};
+ghost use Rattle.line_parts.specs.Moments.{moment_text};
 
 use jiff_core::civil::Date;
 

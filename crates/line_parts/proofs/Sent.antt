@@ -7,9 +7,9 @@ use Rattle.std.specs.Io.KnownBytes.{append_known}
 use Rattle.fsrm_outside.specs.declared.traits.Sink.{Ghosts as Sink}
 use Rattle.fsrm_outside.specs.Shown.{ShowsFront}
 use Rattle.fsrm_outside.proofs.Shown.{append_known-nil, shows_then, shows_then_front}
-use Rattle.reply_text.specs.declared.fault.TextFault.{TextFault}
-use Rattle.reply_text.specs.declared.fault.TextFault.TheVariants.{NoMemory}
-use Rattle.reply_text.specs.Writes.{Sends, Writes, WritesTo}
+use Rattle.line_parts.specs.declared.fault.TextFault.{TextFault}
+use Rattle.line_parts.specs.declared.fault.TextFault.TheVariants.{NoMemory}
+use Rattle.line_parts.specs.Writes.{Sends, Writes, WritesTo}
 
 sends_then : {T E : Type 0} (r : Result T E) (a b c : Option (List ℕ)) (t u : List ℕ) → b ≡ append_known a t → Sends r b c u → Sends r a c (t ++ u)
 sends_then (Ok x) a b c t u p h = shows_then a b c t u p h
