@@ -1,3 +1,4 @@
+pub mod Amortizing
 pub mod ChangeLaws
 pub mod EnginePieceLaws
 pub mod EntriesRead
@@ -14,3 +15,4 @@ pub mod RecordWalks
 pub mod Standings
 pub mod StateLaws
 pub mod TailLaws
+pub mod Told

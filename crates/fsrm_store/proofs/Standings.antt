@@ -16,9 +16,10 @@ use Rattle.fsrm_outside.proofs.Stages.{started, weaker}
 use Rattle.fsrm_journal.specs.Stores.{Holding, HoldsWithOrWithout, Stands, StandsAt}
 use Rattle.fsrm_journal.specs.declared.journal.Journal.{Journal}
 use Rattle.fsrm_journal.proofs.Stores.{each_now, none_here}
+use Rattle.fsrm_engine.specs.Machine.{Machine}
 use Rattle.record_codec.specs.Entries.{decoded}
 use Rattle.fsrm_store.specs.Keeps.{HoldsState, Keeps, Spell}
-use Rattle.fsrm_store.specs.Standing.{rows_kept, HoldsEither, Leads, StandsAlike, StandsFor}
+use Rattle.fsrm_store.specs.Standing.{rows_kept, HoldsEither, KeepsJournal, Leads, StandsAlike, StandsFor}
 use Rattle.fsrm_store.specs.declared.store.Store.{Store}
 use Rattle.fsrm_store.proofs.KeepsLaws.{command_keeps, crash_leaves, flush_keeps, keeps_settled, written_holds}
 
@@ -61,8 +62,8 @@ later_leaves K kept next each = weaker (HoldsEither K kept next) (λ i holds. in
 
 -- ---- how a store stands after a call
 pub stands_on : {D : Type 0} {reads : D → Option Parts} {clock : D → Option ℕ} {images : D → ℕ → Parts → Type 0} {kept R : Rows} {store : Store} {disk : D} (after : Store) → StandsFor reads clock images kept R store disk
-    → after.journal ≡ store.journal → after.engine.size ≡ store.engine.size → after.image ≡ store.image → StandsFor reads clock images kept R after disk
-stands_on {reads = reads} {clock = clock} {images = images} {disk = disk} after s journals sizes long = record {
+    → after.journal ≡ store.journal → after.engine.size ≡ store.engine.size → after.image ≡ store.image → after.is_old ≡ store.is_old → StandsFor reads clock images kept R after disk
+stands_on {reads = reads} {clock = clock} {images = images} {disk = disk} after s journals sizes long first = record {
   head = s.head;
   bytes = s.bytes;
   bodies = s.bodies;
@@ -72,6 +73,7 @@ stands_on {reads = reads} {clock = clock} {images = images} {disk = disk} after 
   keeps = s.keeps;
   size = s.size ∙ sym sizes;
   long = long ∙ s.long;
+  version = first ∙ s.version;
 }
 
 pub stands_alike : {D : Type 0} {reads : D → Option Parts} {clock : D → Option ℕ} {images : D → ℕ → Parts → Type 0} {kept : Rows} {disk : D} (store after : Store) → StandsAlike store after
@@ -86,11 +88,17 @@ stands_alike {kept = kept} store after alike s = record {
   keeps = subst (λ (R : Rows). Keeps kept s.head s.bytes s.bodies s.held R) (sym alike.rows) s.keeps;
   size = s.size ∙ sym alike.size;
   long = alike.image ∙ s.long;
+  version = alike.is_old ∙ s.version;
 }
 
+pub stands_kept : {D : Type 0} {reads : D → Option Parts} {clock : D → Option ℕ} {images : D → ℕ → Parts → Type 0} {kept : Rows} {disk : D} (store after : Store) → KeepsJournal store after → after.engine ≡ store.engine
+    → StandsFor reads clock images kept store.engine.rows store disk → StandsFor reads clock images kept after.engine.rows after disk
+stands_kept {reads = reads} {clock = clock} {images = images} {kept = kept} {disk = disk} store after k engine s =
+    subst (λ (m : Machine). StandsFor reads clock images kept m.rows after disk) (sym engine) (stands_on after s k.journal (ap (λ (m : Machine). m.size) engine) k.image k.is_old)
+
 pub flushed : {D : Type 0} {reads : D → Option Parts} {clock : D → Option ℕ} {images : D → ℕ → Parts → Type 0} {kept R : Rows} {store : Store} {disk : D} (after : Store) (new : D) (s : StandsFor reads clock images kept R store disk)
-    → Stands reads clock images s.head s.bytes (s.bodies ++ s.held) after.journal new → Holding [] after.journal → after.engine.size ≡ store.engine.size → after.image ≡ store.image → StandsFor reads clock images (lasting R) R after new
-flushed {kept = kept} {R = R} after new s stands holding sizes long = record {
+    → Stands reads clock images s.head s.bytes (s.bodies ++ s.held) after.journal new → Holding [] after.journal → after.engine.size ≡ store.engine.size → after.image ≡ store.image → after.is_old ≡ store.is_old → StandsFor reads clock images (lasting R) R after new
+flushed {kept = kept} {R = R} after new s stands holding sizes long first = record {
   head = s.head;
   bytes = s.bytes;
   bodies = s.bodies ++ s.held;
@@ -100,14 +108,15 @@ flushed {kept = kept} {R = R} after new s stands holding sizes long = record {
   keeps = flush_keeps kept s.head s.bytes s.bodies s.held R s.keeps;
   size = s.size ∙ sym sizes;
   long = long ∙ s.long;
+  version = first ∙ s.version;
 }
 
 -- the entry of a command is held
 pub entry_held : {D : Type 0} {reads : D → Option Parts} {clock : D → Option ℕ} {images : D → ℕ → Parts → Type 0} {kept R : Rows} {store : Store} {disk : D} (after : Store) (body : List ℕ) (entry : Entry) (next : Rows)
     (s : StandsFor reads clock images kept R store disk) → Leads store.engine.size R entry next → decoded body ≡ Ok entry
     → StandsAt s.head s.bytes s.bodies s.stands.parts after.journal → Holding (s.held ++ body ∷ []) after.journal → after.engine.size ≡ store.engine.size → after.image ≡ store.image
-    → StandsFor reads clock images kept next after disk
-entry_held {kept = kept} {R = R} after body entry next s l told at holding sizes long =
+    → after.is_old ≡ store.is_old → StandsFor reads clock images kept next after disk
+entry_held {kept = kept} {R = R} after body entry next s l told at holding sizes long first =
     let entries : command_entries s.head.size R l.command ≡ entry ∷ [] = ap (λ (K : Capacity). command_entries K R l.command) s.size ∙ l.entries in
     let spell : Spell (body ∷ []) (command_entries s.head.size R l.command) = subst (λ (es : List Entry). Spell (body ∷ []) es) (sym entries) (told, tt) in
     record {
@@ -122,14 +131,15 @@ entry_held {kept = kept} {R = R} after body entry next s l told at holding sizes
           (command_keeps kept s.head s.bytes s.bodies s.held (body ∷ []) R l.command s.keeps l.valid spell);
       size = s.size ∙ sym sizes;
       long = long ∙ s.long;
+      version = first ∙ s.version;
     }
 
 -- a command that doesn't last has no entry
 pub none_held : {D : Type 0} {reads : D → Option Parts} {clock : D → Option ℕ} {images : D → ℕ → Parts → Type 0} {kept : Rows} {store : Store} {disk : D} (after : Store) (c : Command)
     → StandsFor reads clock images kept store.engine.rows store disk → is_command c ≡ true → (step store.engine.size store.engine.rows c).lasting ≡ false
     → after.journal ≡ store.journal → after.engine.size ≡ store.engine.size → after.engine.rows ≡ (step store.engine.size store.engine.rows c).rows → after.image ≡ store.image
-    → StandsFor reads clock images kept after.engine.rows after disk
-none_held {reads = reads} {clock = clock} {images = images} {kept = kept} {store = store} {disk = disk} after c s legal passes journals sizes rows long =
+    → after.is_old ≡ store.is_old → StandsFor reads clock images kept after.engine.rows after disk
+none_held {reads = reads} {clock = clock} {images = images} {kept = kept} {store = store} {disk = disk} after c s legal passes journals sizes rows long first =
     let K = s.head.size in
     let R = store.engine.rows in
     let lasts : (step K R c).lasting ≡ false = ap (λ (K : Capacity). (step K R c).lasting) s.size ∙ passes in
@@ -150,8 +160,9 @@ none_held {reads = reads} {clock = clock} {images = images} {kept = kept} {store
           (subst (λ (R : Rows). Keeps kept s.head s.bytes s.bodies (s.held ++ []) R) now keeps);
       size = s.size;
       long = s.long;
+      version = s.version;
     })
-    journals sizes long
+    journals sizes long first
 
 -- where no entry is held, what is kept is what is kept of the rows
 settled_at : {D : Type 0} {reads : D → Option Parts} {clock : D → Option ℕ} {images : D → ℕ → Parts → Type 0} {kept R : Rows} {store : Store} {disk : D} (n : ℕ) → store.journal.held ≡ n

@@ -5,7 +5,10 @@ use Rattle.fsrm_model.specs.declared.row.Capacity.{Capacity}
 use Rattle.fsrm_model.specs.nodes.Fresh.{new_rows}
 use Rattle.fsrm_outside.specs.Moments.{EachNow}
 use Rattle.fsrm_outside.specs.Parts.{Parts}
+use Rattle.fsrm_outside.specs.declared.traits.Part.{Part}
 use Rattle.fsrm_journal.specs.Formatted.{has_store, SameButGates}
+use Rattle.fsrm_journal.specs.Opened.{judged_parts}
+use Rattle.fsrm_store.specs.Recovery.{is_first_version}
 use Rattle.fsrm_store.specs.States.{state_of}
 use Rattle.fsrm_store.specs.States.State.{NoState, Holds}
 use Rattle.fsrm_store.specs.declared.fault.StoreFault.{StoreFault}
@@ -20,9 +23,10 @@ IsInit parts (Err NoMemory) = Unit {0}
 IsInit parts (Err NoStore) = ⊥
 IsInit parts (Err (Damaged part place)) = ⊥
 
--- the new store of this size
-abbrev pub HoldsNew : Capacity → Parts → Type 0
-HoldsNew size parts = state_of parts ≡ Holds size new_rows
+-- The new store of this size, which has version 2.
+pub record HoldsNew (size : Capacity) (parts : Parts) : Type 0 where
+  pub rows : state_of parts ≡ Holds size new_rows
+  pub young : (ruling : Part) → judged_parts parts ≡ Ok ruling → is_first_version ruling parts ≡ false
 
 -- A read gives the new store, and so does a crash.
 pub record IsNew {D : Type 0} (reads : D → Option Parts) (clock : D → Option ℕ) (images : D → ℕ → Parts → Type 0) (size : Capacity) (disk : D) : Type 0 where

@@ -1,3 +1,4 @@
+pub mod Amortized
 pub mod EnginePieces
 pub mod Faults
 pub mod Init

@@ -15,11 +15,13 @@ use Rattle.fsrm_store.specs.Keeps.{Keeps}
 abbrev pub IsReady : {D : Type 0} → (D → Option Parts) → Journal → D → Type 0
 IsReady reads journal disk = ForSome (reads disk) (λ parts. (journal.end < length (part_of journal.ruling parts)) × (0 < length (part_of (other journal.ruling) parts)))
 
--- The half that rules has an image of so many bytes, which keeps these rows in a store of this size, and no record.
+-- The half that rules has version 2 and an image of so many bytes, which keeps these rows in a store of this size, and no
+-- record.
 pub record HasImage {D : Type 0} (reads : D → Option Parts) (clock : D → Option ℕ) (images : D → ℕ → Parts → Type 0) (K : Capacity) (R : Rows) (long : ℕ) (journal : Journal) (disk : D) : Type 0 where
   pub head : Head
   pub bytes : List ℕ
   pub stands : Stands reads clock images head bytes [] journal disk
   pub keeps : Keeps (lasting R) head bytes [] [] R
   pub size : head.size ≡ K
+  pub version : head.version ≡ 2
   pub whole : long ≡ length bytes

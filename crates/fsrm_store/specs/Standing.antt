@@ -1,5 +1,5 @@
 -- A store beside its disk.
-use Rattle.std.specs.Prelude.{◌≡◌, ◌⊎◌, ◌≤◌, ◌+◌, ◌-◌, ℕ, zero, suc, max, true, Option, List, [], ◌∷◌, length}
+use Rattle.std.specs.Prelude.{◌≡◌, ◌⊎◌, ◌≤◌, ◌+◌, ◌-◌, ℕ, zero, suc, max, nat_eq, true, Option, Ok, List, [], ◌∷◌, length}
 use Rattle.fsrm_model.specs.commands.Step.{step}
 use Rattle.fsrm_model.specs.declared.command.Command.{Command}
 use Rattle.fsrm_model.specs.declared.command.Entry.{Entry}
@@ -8,12 +8,18 @@ use Rattle.fsrm_model.specs.declared.row.Rows.{Rows}
 use Rattle.fsrm_model.specs.store.Lasting.{lasting}
 use Rattle.fsrm_model.specs.store.Replays.{command_entries}
 use Rattle.fsrm_model.specs.store.Valued.{is_command}
-use Rattle.fsrm_outside.specs.Parts.{Parts}
+use Rattle.fsrm_outside.specs.Parts.{Parts, part_of}
+use Rattle.fsrm_journal.specs.Heads.{head_of}
+use Rattle.fsrm_journal.specs.HeadSays.{head_says}
+use Rattle.fsrm_journal.specs.Opened.{judged_parts}
 use Rattle.fsrm_journal.specs.Stores.{Holding, Stands, StandsAt}
 use Rattle.fsrm_journal.specs.declared.heads.Head.{Head}
 use Rattle.fsrm_journal.specs.declared.journal.Journal.{Journal}
-use Rattle.fsrm_store.specs.Keeps.{HoldsState, Keeps}
+use Rattle.fsrm_store.specs.Keeps.{HasTail, HoldsState, Keeps}
 pub use Rattle.fsrm_store.specs.NewHalf.{IsReady}
+use Rattle.fsrm_store.specs.Recovery.{is_first_version}
+use Rattle.fsrm_store.specs.States.{state_of}
+use Rattle.fsrm_store.specs.States.State.{Holds}
 use Rattle.fsrm_store.specs.declared.store.Store.{Store}
 
 -- The disk holds what the store has of these rows, and of `kept` is what a crash leaves now.
@@ -27,6 +33,7 @@ pub record StandsFor {D : Type 0} (reads : D → Option Parts) (clock : D → Op
   pub keeps : Keeps kept head bytes bodies held R
   pub size : head.size ≡ store.engine.size
   pub long : store.image ≡ length bytes
+  pub version : store.is_old ≡ nat_eq head.version 1
 
 -- So it does of the engine's rows. While a command is kept, the engine is ahead of what is held.
 abbrev pub Standing : {D : Type 0} → (D → Option Parts) → (D → Option ℕ) → (D → ℕ → Parts → Type 0) → Rows → Store → D → Type 0
@@ -79,6 +86,15 @@ pub record KeepsJournal (old new : Store) : Type 0 where
   pub is_old : new.is_old ≡ old.is_old
   pub sound : new.sound ≡ old.sound
 
+-- What a read tells of a store that stands: the rows that are kept, which half rules, how long its image is, whether it has
+-- version 1, and how many bytes the records after the image have.
+pub record IsTold (kept : Rows) (store : Store) (parts : Parts) : Type 0 where
+  pub state : state_of parts ≡ Holds store.engine.size kept
+  pub rules : judged_parts parts ≡ Ok store.journal.ruling
+  pub image : (head_says (head_of (part_of store.journal.ruling parts))).image ≡ store.image
+  pub version : is_first_version store.journal.ruling parts ≡ store.is_old
+  pub tail : HasTail (tail_of store.journal) parts
+
 -- What stands for one stands for the other: the journal stands where it stood and holds what it held, and the rows are the
 -- same.
 pub record StandsAlike (old new : Store) : Type 0 where
@@ -89,3 +105,4 @@ pub record StandsAlike (old new : Store) : Type 0 where
   pub size : new.engine.size ≡ old.engine.size
   pub rows : new.engine.rows ≡ old.engine.rows
   pub image : new.image ≡ old.image
+  pub is_old : new.is_old ≡ old.is_old

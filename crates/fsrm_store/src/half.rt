@@ -48,6 +48,7 @@ fn next_head(journal: &Journal, size: Capacity, image: u64) -> Head
     ensures next { IsNext journal.now.generation result.generation }
     ensures size { result.size ≡ size }
     ensures image { result.image ≡ image }
+    ensures version { result.version ≡ 2 }
 {
     Head {
         generation: journal.next_generation(),

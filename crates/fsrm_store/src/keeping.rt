@@ -1,11 +1,14 @@
 //! Entries that are kept: held in a group, and made stable.
 
-ghost use Rattle.std.specs.Prelude.{◌≡◌, ◌+◌, ◌*◌, ◌≤◌, ◌<◌, true, false, length, Err, OnErr, OnOk};
+ghost use Rattle.std.specs.Prelude.{◌≡◌, ◌+◌, ◌*◌, ◌≤◌, ◌<◌, true, false, length, take, Err, OnErr, OnOk};
 ghost use Rattle.fsrm_model.specs.declared.row.Rows.{Rows};
 ghost use Rattle.fsrm_model.specs.store.Lasting.{lasting};
+ghost use Rattle.fsrm_model.specs.values.Limits.{longest_entry};
 ghost use Rattle.fsrm_outside.specs.Causes.{HasCause};
 ghost use Rattle.fsrm_outside.specs.Moments.{EachImage};
+ghost use Rattle.record_codec.specs.Entries.{entry as entry_format};
 ghost use Rattle.record_codec.specs.Writing.{lent, IsWritable};
+ghost use Rattle.fsrm_store.specs.Amortized.{bytes_left, bytes_since, record_bytes, Amortized};
 ghost use Rattle.fsrm_store.specs.Standing.{now_kept, HoldsEither, IsHeld, IsReady, IsWritten, Leads, Standing, StandsFor};
 ghost use Rattle.fsrm_store.specs.declared.fault.StoreFault.TheVariants.{DiskFault};
 
@@ -15,6 +18,18 @@ use crate::store::Store;
 use fsrm_model::{Ledger, Steps};
 use fsrm_outside::Disk;
 use record_codec::{EntryRef, encode};
+
+// Writes an entry to the front of a buffer, and answers how many bytes it has.
+fn spell(entry: &EntryRef<'_>, buffer: &mut Vec<u8>) -> usize
+    requires writable { IsWritable (lent entry.now) }
+    requires room { longest_entry ≤ length buffer.old.items }
+    ensures written { take result buffer.new.items ≡ entry_format.spell (lent entry.now) }
+    ensures legal { entry_format.legal (lent entry.now) ≡ true }
+    ensures short { result ≤ longest_entry }
+    ensures room { length buffer.new.items ≡ length buffer.old.items }
+{
+    encode(entry, buffer)
+}
 
 impl Store {
     // Holds the entry of the command that led to the engine's rows, and makes the group stable if it is full. Whatever the
@@ -41,12 +56,14 @@ impl Store {
         ensures group { self.new.group ≡ self.old.group }
         ensures ready { OnOk result (IsReady D.reads self.new.journal disk.new) }
         ensures looks { steps.new ≤ steps.old + 2 * length self.old.engine.rows.nodes }
+        ensures amortized { (kept R : Rows) → StandsFor D.reads D.disk_clock D.images kept R self.old disk.old → Leads self.old.engine.size R (lent entry.now) self.old.engine.rows
+            → Amortized (length self.old.engine.rows.nodes) steps.old steps.new (bytes_since self.old.journal + record_bytes (lent entry.now)) (bytes_left result self.new) }
         ensures by { D.by_disk disk.old disk.new }
         ensures only { OnErr result (result ≡ Err DiskFault) }
         ensures cause { HasCause (D.disk_faults disk.old) (D.disk_faults disk.new) result }
     {
         self.sound = false;
-        let size = encode(entry, &mut self.buffer);
+        let size = spell(entry, &mut self.buffer);
         self.journal.hold(&self.buffer[..size]);
         if self.journal.held() < self.group {
             self.sound = true;
@@ -76,6 +93,8 @@ impl Store {
         ensures group { self.new.group ≡ self.old.group }
         ensures ready { OnOk result (IsReady D.reads self.new.journal disk.new) }
         ensures looks { steps.new ≤ steps.old + 2 * length self.old.engine.rows.nodes }
+        ensures amortized { (kept : Rows) → Standing D.reads D.disk_clock D.images kept self.old disk.old
+            → Amortized (length self.old.engine.rows.nodes) steps.old steps.new (bytes_since self.old.journal) (bytes_left result self.new) }
         ensures by { D.by_disk disk.old disk.new }
         ensures only { OnErr result (result ≡ Err DiskFault) }
         ensures cause { HasCause (D.disk_faults disk.old) (D.disk_faults disk.new) result }
@@ -111,6 +130,8 @@ impl Store {
         ensures group { self.new.group ≡ self.old.group }
         ensures ready { OnOk result (IsReady D.reads self.new.journal disk.new) }
         ensures looks { steps.new ≤ steps.old + 2 * length self.old.engine.rows.nodes }
+        ensures amortized { (kept : Rows) → Standing D.reads D.disk_clock D.images kept self.old disk.old
+            → Amortized (length self.old.engine.rows.nodes) steps.old steps.new (bytes_since self.old.journal) (bytes_left result self.new) }
         ensures by { D.by_disk disk.old disk.new }
         ensures only { OnErr result (result ≡ Err DiskFault) }
         ensures cause { HasCause (D.disk_faults disk.old) (D.disk_faults disk.new) result }

@@ -1,6 +1,6 @@
 //! What is proved of the bytes of a store.
 
-ghost use Rattle.std.specs.Prelude.{◌≡◌, ◌⊎◌, ◌↔◌, ◌≤◌, ◌+◌, ℕ, List, [], ◌∷◌, ◌++◌, true, false, None, Some, Ok, Err, length, take, drop};
+ghost use Rattle.std.specs.Prelude.{◌≡◌, ◌⊎◌, ◌↔◌, ◌≤◌, ◌+◌, ◌*◌, ◌/◌, ℕ, List, [], ◌∷◌, ◌++◌, true, false, None, Some, Ok, Err, length, take, drop};
 ghost use Rattle.std.specs.List.{list_all};
 ghost use Rattle.fsrm_model.specs.commands.Step.{step};
 ghost use Rattle.fsrm_model.specs.declared.command.Command.{Command};
@@ -28,11 +28,12 @@ ghost use Rattle.record_codec.specs.Writing.{IsWritable};
 ghost use Rattle.image_codec.specs.Images.{image_in};
 ghost use Rattle.image_codec.specs.NewImage.{new_image};
 ghost use Rattle.fsrm_journal.specs.Stores.{HoldsStore, HoldsWithOrWithout, HoldsOldOrNew};
+ghost use Rattle.fsrm_store.specs.Amortized.{Amortized};
 ghost use Rattle.fsrm_store.specs.Keeps.{Spell, HoldsState, HoldsOldState, Keeps, HasTail};
 ghost use Rattle.fsrm_store.specs.States.{state_of};
 ghost use Rattle.fsrm_store.specs.States.State.{NoState, DamagedAt, Holds};
 ghost use Rattle.fsrm_store.specs.Reads.{Rules, image_bytes, ComesTo};
-ghost use Rattle.fsrm_store.specs.Standing.{Standing, StandsAlike};
+ghost use Rattle.fsrm_store.specs.Standing.{IsTold, KeepsJournal, Standing, StandsAlike};
 ghost use Rattle.fsrm_store.specs.declared.store.Store.{Store};
 ghost use Rattle.fsrm_store.specs.WorkedStates.{no_bytes, closed_gates, new_store, no_part, newer_half, equal_halves, wrong_version, cut_image, short_image, short_part, wrong_rows, one_record, refused_record, closed_record, no_gate, no_length, length_zero, no_body, no_next_gate, wrong_kind, wrong_owner, long_body};
 
@@ -107,10 +108,19 @@ pub fn calls()
     ensures new { (head : Head) → 1 ≤ head.size.nodes → Keeps new_rows head new_image [] [] new_rows }
 {}
 
-/// What a crash leaves of a store that stands, and when another one stands there, too.
+/// What a crash leaves of a store that stands, what a read tells of it, and when another one stands there, too.
 pub fn standing<D: Disk>()
     ensures now { (kept : Rows) (store : Store) (disk : D) → Standing D.reads D.disk_clock D.images kept store disk → EachNow D.disk_clock D.images (HoldsState store.engine.size kept) disk }
+    ensures told { (kept : Rows) (store : Store) (disk : D) (parts : Parts) → Standing D.reads D.disk_clock D.images kept store disk → D.reads disk ≡ Some parts → IsTold kept store parts }
+    ensures kept { (kept : Rows) (store after : Store) (disk : D) → KeepsJournal store after → after.engine ≡ store.engine → Standing D.reads D.disk_clock D.images kept store disk → Standing D.reads D.disk_clock D.images kept after disk }
     ensures alike { (kept : Rows) (store after : Store) (disk : D) → StandsAlike store after → Standing D.reads D.disk_clock D.images kept store disk → Standing D.reads D.disk_clock D.images kept after disk }
+{}
+
+/// What calls take for images, one after another: for each 1 MiB of records, whole ones alone, 2 looks at each node.
+pub fn looks()
+    ensures together { (nodes more most looks mid spent steps bytes left added rest : ℕ) → nodes ≤ most → more ≤ most → Amortized nodes looks mid bytes left → Amortized more (mid + spent) steps (left + added) rest
+        → Amortized most (looks + spent) steps (bytes + added) rest }
+    ensures whole { (nodes looks steps bytes left : ℕ) → Amortized nodes looks steps bytes left → steps ≤ looks + bytes / 1048576 * (2 * nodes) }
 {}
 
 /// How many bytes the records of a store have. It is one number, that of its bodies' records.

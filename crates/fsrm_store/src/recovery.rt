@@ -12,6 +12,8 @@ ghost use Rattle.fsrm_outside.specs.Settling.{Settles, Stable};
 ghost use Rattle.fsrm_engine.specs.Restored.{is_restorable};
 ghost use Rattle.fsrm_journal.specs.Opened.{judged_parts, ReadsOn};
 ghost use Rattle.fsrm_journal.specs.Stores.{ReadUpTo};
+ghost use Rattle.fsrm_store.specs.Amortized.{bytes_since};
+ghost use Rattle.fsrm_store.specs.Keeps.{HasTail};
 ghost use Rattle.fsrm_store.specs.Recovery.{given_up, is_first_version, FewLooks, HasRead, IsRefused, OnlyReads, Restored, TellsFaults};
 ghost use Rattle.fsrm_store.specs.Standing.{IsReady, Standing};
 ghost use Rattle.fsrm_store.specs.States.{state_of};
@@ -137,6 +139,7 @@ impl Store {
         ensures group { IfOk result (λ store. store.group ≡ 1) }
         ensures sound { IfOk result (λ store. store.sound ≡ true) }
         ensures old { ForSome (D.reads disk.old) (λ parts. IfOk result (λ store. (judged_parts parts ≡ Ok store.journal.ruling) × (store.is_old ≡ is_first_version store.journal.ruling parts))) }
+        ensures tail { ForSome (D.reads disk.old) (λ parts. IfOk result (λ store. HasTail (bytes_since store.journal) parts)) }
         ensures refused { ForSome (D.reads disk.old) (λ parts. IfErr result (IsRefused parts)) }
         ensures only { result ≢ Err AlreadyStore }
         ensures looks { ForSome (D.reads disk.old) (λ parts. FewLooks parts steps.old steps.new) }

@@ -10,7 +10,7 @@ ghost use Rattle.fsrm_model.specs.declared.row.Rows.{Rows};
 ghost use Rattle.fsrm_model.specs.meaning.Named.{IsNamed};
 ghost use Rattle.fsrm_model.specs.objects.Acts.{IsAct};
 ghost use Rattle.fsrm_model.specs.store.Lasting.{lasting};
-ghost use Rattle.fsrm_model.specs.store.Replays.{is_finished_scan, is_scan_step, journal_entry};
+ghost use Rattle.fsrm_model.specs.store.Replays.{command_entries, is_finished_scan, is_scan_step, journal_entry};
 ghost use Rattle.fsrm_model.specs.store.Valid.{is_valid};
 ghost use Rattle.fsrm_model.specs.store.Valued.{is_command};
 ghost use Rattle.fsrm_outside.specs.Causes.{Rose};
@@ -48,6 +48,7 @@ pub struct Store {
 }
 
 impl Store {
+    ghost use Rattle.fsrm_store.specs.Amortized.{bytes_left, bytes_since, entries_bytes, Amortized};
     ghost use Rattle.fsrm_store.specs.Standing.{now_kept, HoldsEither, IsHeld, IsReady, IsWritten, KeepsJournal, Standing, StandsAlike};
     ghost use Rattle.fsrm_store.specs.declared.fault.StoreFault.TheVariants.{DiskFault, NoMemory as OutOfMemory};
 
@@ -87,7 +88,9 @@ impl Store {
 
     /// How many entries are held, which a crash would lose. If it is 0, all that was answered lasts.
     pub fn held(&self) -> u32
-        ensures { result ≡ self.now.journal.held }
+        ensures count { result ≡ self.now.journal.held }
+        ensures few { self.now.sound ≡ true → result < self.now.group }
+        ensures group { self.now.group ≤ 1024 }
     {
         self.journal.held()
     }
@@ -145,6 +148,8 @@ impl Store {
         ensures group { self.new.group ≡ self.old.group }
         ensures ready { OnOk result (IsReady D.reads self.new.journal disk.new) }
         ensures looks { steps.new ≤ steps.old + cost self.old.engine.rows command.now + 2 * length self.new.engine.rows.nodes }
+        ensures amortized { (kept : Rows) → Standing D.reads D.disk_clock D.images kept self.old disk.old
+            → Amortized (length self.new.engine.rows.nodes) (steps.old + cost self.old.engine.rows command.now) steps.new (bytes_since self.old.journal + entries_bytes (command_entries self.old.engine.size self.old.engine.rows command.now)) (bytes_left result self.new) }
         ensures by { D.by_disk disk.old disk.new }
         ensures later { D.disk_faults disk.old ≤ D.disk_faults disk.new }
         ensures failed { IsErrOf result DiskFault → Rose (D.disk_faults disk.old) (D.disk_faults disk.new) }
@@ -189,6 +194,8 @@ impl Store {
         ensures group { self.new.group ≡ self.old.group }
         ensures ready { OnOk result (IsReady D.reads self.new.journal disk.new) }
         ensures looks { steps.new ≤ steps.old + cost self.old.engine.rows (record { moment = moment; deed = File op.now }) + 2 * length self.new.engine.rows.nodes }
+        ensures amortized { (kept : Rows) → Standing D.reads D.disk_clock D.images kept self.old disk.old
+            → Amortized (length self.new.engine.rows.nodes) (steps.old + cost self.old.engine.rows (record { moment = moment; deed = File op.now })) steps.new (bytes_since self.old.journal + entries_bytes (command_entries self.old.engine.size self.old.engine.rows (record { moment = moment; deed = File op.now }))) (bytes_left result self.new) }
         ensures by { D.by_disk disk.old disk.new }
         ensures later { D.disk_faults disk.old ≤ D.disk_faults disk.new }
         ensures failed { IsErrOf result DiskFault → Rose (D.disk_faults disk.old) (D.disk_faults disk.new) }

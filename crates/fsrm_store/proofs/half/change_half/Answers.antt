@@ -72,6 +72,7 @@ returns-clause-store g c kept was image bodies s k size =
       stands = c.in_ok-switch.ensures.store was head image new bodies whole put;
       keeps = new_keeps head e.rows e.size next_size c.size_of-size.ensures.valid c.in_ok-put_image.ensures.legal;
       size = next_size;
+      version = c.next_head-head.ensures.version;
       whole = c.image_len-image.ensures.exact;
     }
 

@@ -52,8 +52,8 @@ returns-in-Err-clause-refused g c = λ parts head base entries told h.
     let place = c.in-Some.place in
     let size = c.in-Some.size in
     let fault = c.in-Err.fault in
-    let there : record_at (part_of j.ruling parts) j.end ≡ Ok c.in_ok-found.found = c.in_ok-found.ensures.tells parts told h.read.sees.long in
-    let bodies = c.in_ok-found.ensures.body parts told h.read.sees.long in
+    let there : record_at (part_of j.ruling parts) j.end ≡ Ok c.in_ok-found.found = c.in_ok-found.ensures.tells parts told h.read.sees in
+    let bodies = c.in_ok-found.ensures.body parts told h.read.sees in
     let body = rw c.in-Some.is at bodies in
     subst (IsRefused parts) (sym (c.damaged.ensures ∙ ap (λ (p : Part). of_bytes p place fault) c.ruling-part.ensures))
     (refused_body head base entries parts j place size (take size c.next.new.into) fault h (there ∙ ap (λ (o : Option (ℕ × ℕ)). Ok o) c.in-Some.is) body c.in-Err.ensures.exact)
@@ -86,7 +86,7 @@ returns-in_default-clause-cause g c = told_none _ _ _ (λ err. absurd (cc err)) 
 pub returns-in_err-found-clause-refused : goal.returns-in_err-found-clause-refused
 returns-in_err-found-clause-refused g c = λ parts head base entries told h.
     let p = err_from_is_err_and c.from_residual.result c.from_residual.ensures.1 in
-    rw p.1 (subst (IsRefused parts) (sym p.2) (refused_record head base entries parts c.args.journal.now c.in_err-found.field-0.0 h (c.in_err-found.ensures.tells parts told h.read.sees.long)))
+    rw p.1 (subst (IsRefused parts) (sym p.2) (refused_record head base entries parts c.args.journal.now c.in_err-found.field-0.0 h (c.in_err-found.ensures.tells parts told h.read.sees)))
 
 pub returns-in_err-found-clause-only : goal.returns-in_err-found-clause-only
 returns-in_err-found-clause-only g c =

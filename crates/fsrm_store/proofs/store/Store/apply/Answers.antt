@@ -2,6 +2,7 @@ use Rattle.std.proofs.Common.{refl, sym, ◌∙◌, ◌≡◌, true, length, sub
 use Rattle.fsrm_model.specs.declared.command.Outcome.{Outcome}
 use Rattle.fsrm_model.specs.store.Replays.{is_finished_scan}
 use Rattle.fsrm_store.proofs.KeptAs.{lasting_finished}
+use Rattle.std.proofs.lemmas.Result.{err_from_is_err_and}
 use Rattle.fsrm_model.specs.store.Lasting.{lasting}
 use Rattle.fsrm_model.specs.commands.Step.{step}
 use Rattle.fsrm_model.proofs.valid.ValidTests.{test_by_valid, valid_by_test}
@@ -9,6 +10,7 @@ use Rattle.fsrm_model.specs.meaning.Named.{IsNamed}
 use Rattle.fsrm_engine.specs.Machine.{Machine, Takes}
 use Rattle.record_codec.specs.Writing.{IsWritable}
 use Rattle.fsrm_store.proofs.KeepsLaws.{entry_writable}
+use Rattle.fsrm_store.proofs.Amortizing.{entry_bytes, left_none, renamed, unpaid}
 use Rattle.fsrm_store.proofs.Standings.{leads, leaves_as, none_held, settled, stands_on, stands_still}
 use Rattle.fsrm_store.proofs.store.Store.apply.Goals as goal
 
@@ -27,7 +29,7 @@ returns-in_err-keep-clause-leaves g c kept s =
     let t = c.in_ok-answer.ensures.ok in
     let old = c.args.self.now.engine in
     leaves_as kept t.size_is t.rows_are
-    (c.keep.ensures.leaves kept old.rows (stands_on _ s refl t.size_is refl)
+    (c.keep.ensures.leaves kept old.rows (stands_on _ s refl t.size_is refl refl)
     (leads old.size _ old.rows _ c.args.command.now _ c.requires.valid (sym t.lasting_is ∙ c.if-answer.true) (c.entry_of.ensures old.size old.rows (sym t.outcome_is)) t.size_is t.rows_are))
 
 pub returns-in_ok-keep-clause-leaves : goal.returns-in_ok-keep-clause-leaves
@@ -35,14 +37,14 @@ returns-in_ok-keep-clause-leaves g c kept s =
     let t = c.in_ok-answer.ensures.ok in
     let old = c.args.self.now.engine in
     leaves_as kept t.size_is t.rows_are
-    (c.keep.ensures.leaves kept old.rows (stands_on _ s refl t.size_is refl)
+    (c.keep.ensures.leaves kept old.rows (stands_on _ s refl t.size_is refl refl)
     (leads old.size _ old.rows _ c.args.command.now _ c.requires.valid (sym t.lasting_is ∙ c.if-answer.true) (c.entry_of.ensures old.size old.rows (sym t.outcome_is)) t.size_is t.rows_are))
 
 pub returns-in_ok-keep-clause-store : goal.returns-in_ok-keep-clause-store
 returns-in_ok-keep-clause-store g c kept s =
     let t = c.in_ok-answer.ensures.ok in
     let old = c.args.self.now.engine in
-    c.in_ok-keep.ensures.store kept old.rows (stands_on _ s refl t.size_is refl)
+    c.in_ok-keep.ensures.store kept old.rows (stands_on _ s refl t.size_is refl refl)
     (leads old.size _ old.rows _ c.args.command.now _ c.requires.valid (sym t.lasting_is ∙ c.if-answer.true) (c.entry_of.ensures old.size old.rows (sym t.outcome_is)) t.size_is t.rows_are)
 
 pub returns-else-answer-clause-leaves : goal.returns-else-answer-clause-leaves
@@ -51,7 +53,7 @@ returns-else-answer-clause-leaves g c kept s = stands_still _ _ s refl
 pub returns-else-answer-clause-store : goal.returns-else-answer-clause-store
 returns-else-answer-clause-store g c kept s =
     let t = c.in_ok-answer.ensures.ok in
-    settled (none_held _ c.args.command.now s c.requires.valid (sym t.lasting_is ∙ c.if-answer.false) refl t.size_is t.rows_are refl)
+    settled (none_held _ c.args.command.now s c.requires.valid (sym t.lasting_is ∙ c.if-answer.false) refl t.size_is t.rows_are refl refl)
 
 pub entry_of-requires : goal.entry_of-requires
 entry_of-requires g c scan =
@@ -72,3 +74,33 @@ returns-in_ok-keep-clause-looks g c = omega (arith, c.apply.ensures.looks, c.kee
 
 pub invariant_of-self-clause-valid : goal.invariant_of-self-clause-valid
 invariant_of-self-clause-valid g c = test_by_valid c.apply.new.self.size c.apply.new.self.rows c.apply.ensures.kept
+
+-- ---- looks
+pub returns-in_err-answer-clause-amortized : goal.returns-in_err-answer-clause-amortized
+returns-in_err-answer-clause-amortized g c kept s =
+    let p = err_from_is_err_and c.from_residual-in_err-answer.result c.from_residual-in_err-answer.ensures.1 in
+    unpaid _ _ _ _ _ (omega (arith, c.apply.ensures.looks)) (left_none _ p.0 _ _ p.1)
+
+pub returns-in_err-keep-clause-amortized : goal.returns-in_err-keep-clause-amortized
+returns-in_err-keep-clause-amortized g c kept s =
+    let t = c.in_ok-answer.ensures.ok in
+    let old = c.args.self.now.engine in
+    let lasts = sym t.lasting_is ∙ c.if-answer.true in
+    let l = leads old.size _ old.rows _ c.args.command.now _ c.requires.valid lasts (c.entry_of.ensures old.size old.rows (sym t.outcome_is)) t.size_is t.rows_are in
+    let bytes = entry_bytes old.size old.rows c.args.command.now _ lasts (c.entry_of.ensures old.size old.rows (sym t.outcome_is)) in
+    let p = err_from_is_err_and c.from_residual-in_err-keep.result c.from_residual-in_err-keep.ensures.1 in
+    let same = ap (λ (m : Machine). length m.rows.nodes) (sym c.keep.ensures.engine) in
+    rw p.1 (renamed _ _ _ _ _ _ _ _ same c.apply.ensures.looks (omega (arith, bytes)) (c.in_err-keep.ensures.amortized kept old.rows (stands_on _ s refl t.size_is refl refl) l))
+
+pub returns-in_ok-keep-clause-amortized : goal.returns-in_ok-keep-clause-amortized
+returns-in_ok-keep-clause-amortized g c kept s =
+    let t = c.in_ok-answer.ensures.ok in
+    let old = c.args.self.now.engine in
+    let lasts = sym t.lasting_is ∙ c.if-answer.true in
+    let l = leads old.size _ old.rows _ c.args.command.now _ c.requires.valid lasts (c.entry_of.ensures old.size old.rows (sym t.outcome_is)) t.size_is t.rows_are in
+    let bytes = entry_bytes old.size old.rows c.args.command.now _ lasts (c.entry_of.ensures old.size old.rows (sym t.outcome_is)) in
+    let same = ap (λ (m : Machine). length m.rows.nodes) (sym c.keep.ensures.engine) in
+    renamed _ _ _ _ _ _ _ _ same c.apply.ensures.looks (omega (arith, bytes)) (c.in_ok-keep.ensures.amortized kept old.rows (stands_on _ s refl t.size_is refl refl) l)
+
+pub returns-else-answer-clause-amortized : goal.returns-else-answer-clause-amortized
+returns-else-answer-clause-amortized g c kept s = unpaid _ _ _ _ _ (omega (arith, c.apply.ensures.looks)) (omega arith)

@@ -1,4 +1,5 @@
-use Rattle.std.proofs.Common.{ℕ, List, [], subst}
+use Rattle.std.proofs.Common.{ℕ, List, [], sym, ap, subst}
+use Rattle.std.specs.Prelude.{nat_eq}
 use Rattle.fsrm_store.specs.Keeps.{Keeps}
 use Rattle.fsrm_store.proofs.ChangeLaws.{nothing_held, still_none}
 use Rattle.fsrm_store.proofs.store.Store.change.Goals as goal
@@ -28,4 +29,5 @@ returns-clause-store g c kept s =
       keeps = h.keeps;
       size = h.size;
       long = h.whole;
+      version = ap (λ (n : ℕ). nat_eq n 1) (sym h.version);
     }

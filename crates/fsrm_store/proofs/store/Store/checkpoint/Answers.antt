@@ -16,7 +16,7 @@ returns-in_err-change-clause-leaves g c kept s =
     joined laws c.flush.ensures.by c.change.ensures.by
     (flush_leaves c.flush.new.disk s (c.flush.ensures.leaves s.head s.bytes s.bodies s.held s.stands s.holding))
     (later_leaves engine.size kept (lasting engine.rows)
-    (c.change.ensures.leaves (lasting engine.rows) (flushed _ _ s (c.in_ok-flush.ensures.store s.head s.bytes s.bodies s.held s.stands s.holding) c.in_ok-flush.ensures.holding refl refl)))
+    (c.change.ensures.leaves (lasting engine.rows) (flushed _ _ s (c.in_ok-flush.ensures.store s.head s.bytes s.bodies s.held s.stands s.holding) c.in_ok-flush.ensures.holding refl refl refl)))
 
 pub returns-clause-leaves : goal.returns-clause-leaves
 returns-clause-leaves g c kept s =
@@ -26,8 +26,8 @@ returns-clause-leaves g c kept s =
     joined laws c.flush.ensures.by c.change.ensures.by
     (flush_leaves c.flush.new.disk s (c.flush.ensures.leaves s.head s.bytes s.bodies s.held s.stands s.holding))
     (later_leaves engine.size kept (lasting engine.rows)
-    (c.change.ensures.leaves (lasting engine.rows) (flushed _ _ s (c.in_ok-flush.ensures.store s.head s.bytes s.bodies s.held s.stands s.holding) c.in_ok-flush.ensures.holding refl refl)))
+    (c.change.ensures.leaves (lasting engine.rows) (flushed _ _ s (c.in_ok-flush.ensures.store s.head s.bytes s.bodies s.held s.stands s.holding) c.in_ok-flush.ensures.holding refl refl refl)))
 
 pub returns-clause-store : goal.returns-clause-store
 returns-clause-store g c kept s =
-    stands_on _ (c.in_ok-change.ensures.store (lasting c.args.self.now.engine.rows) (flushed _ _ s (c.in_ok-flush.ensures.store s.head s.bytes s.bodies s.held s.stands s.holding) c.in_ok-flush.ensures.holding refl refl)) refl refl refl
+    stands_on _ (c.in_ok-change.ensures.store (lasting c.args.self.now.engine.rows) (flushed _ _ s (c.in_ok-flush.ensures.store s.head s.bytes s.bodies s.held s.stands s.holding) c.in_ok-flush.ensures.holding refl refl refl)) refl refl refl refl

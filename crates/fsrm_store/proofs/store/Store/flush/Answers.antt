@@ -1,5 +1,7 @@
 use Rattle.std.proofs.Common.{refl, sym, ◌∙◌, arith}
+use Rattle.std.proofs.lemmas.Result.{err_from_is_err_and}
 use Rattle.fsrm_model.specs.store.Lasting.{lasting}
+use Rattle.fsrm_store.proofs.Amortizing.{unpaid}
 use Rattle.fsrm_store.proofs.Standings.{none_waits, stands_on, stands_still}
 use Rattle.fsrm_store.proofs.store.Store.flush.Goals as goal
 
@@ -10,10 +12,21 @@ pub returns-then-held-eq0-clause-store : goal.returns-then-held-eq0-clause-store
 returns-then-held-eq0-clause-store g c kept s = none_waits (sym c.held.ensures ∙ c.if-held-eq0.true) s
 
 pub returns-in_err-write-clause-leaves : goal.returns-in_err-write-clause-leaves
-returns-in_err-write-clause-leaves g c kept s = c.write.ensures.leaves kept (stands_on _ s refl refl refl)
+returns-in_err-write-clause-leaves g c kept s = c.write.ensures.leaves kept (stands_on _ s refl refl refl refl)
 
 pub returns-clause-leaves : goal.returns-clause-leaves
-returns-clause-leaves g c kept s = c.write.ensures.leaves kept (stands_on _ s refl refl refl)
+returns-clause-leaves g c kept s = c.write.ensures.leaves kept (stands_on _ s refl refl refl refl)
 
 pub returns-clause-store : goal.returns-clause-store
-returns-clause-store g c kept s = stands_on _ (c.in_ok-write.ensures.store kept (stands_on _ s refl refl refl)) refl refl refl
+returns-clause-store g c kept s = stands_on _ (c.in_ok-write.ensures.store kept (stands_on _ s refl refl refl refl)) refl refl refl refl
+
+pub returns-then-held-eq0-clause-amortized : goal.returns-then-held-eq0-clause-amortized
+returns-then-held-eq0-clause-amortized g c kept s = unpaid _ _ _ _ _ (omega arith) (omega arith)
+
+pub returns-in_err-write-clause-amortized : goal.returns-in_err-write-clause-amortized
+returns-in_err-write-clause-amortized g c kept s =
+    let p = err_from_is_err_and c.from_residual.result c.from_residual.ensures.1 in
+    rw p.1 (c.in_err-write.ensures.amortized kept (stands_on _ s refl refl refl refl))
+
+pub returns-clause-amortized : goal.returns-clause-amortized
+returns-clause-amortized g c kept s = c.in_ok-write.ensures.amortized kept (stands_on _ s refl refl refl refl)

@@ -1,4 +1,4 @@
-use Rattle.std.proofs.Common.{inl, inr, ◌<◌, [], length, refl, sym, ◌∙◌, ap, subst, arith}
+use Rattle.std.proofs.Common.{inl, inr, ℕ, ◌<◌, [], length, refl, sym, ◌∙◌, ap, subst, arith}
 use Rattle.std.specs.Prelude.{nat_eq, Err, Ok}
 use Rattle.std.proofs.lemmas.Result.{err_from_is_err_and}
 use Rattle.fsrm_outside.specs.Parts.{other, part_of}
@@ -8,9 +8,12 @@ use Rattle.fsrm_outside.proofs.Stages.{DiskLaws, quiet_then}
 use Rattle.fsrm_journal.specs.Heads.{head_of}
 use Rattle.fsrm_journal.specs.HeadSays.{head_says}
 use Rattle.fsrm_journal.specs.declared.heads.Head.{Head}
+use Rattle.fsrm_store.specs.Keeps.{HasTail}
 use Rattle.fsrm_store.specs.Recovery.{IsRefused}
+use Rattle.fsrm_store.proofs.Amortizing.{since_tail}
 use Rattle.fsrm_store.proofs.Opened.{gate_there, head_not_already, refused_head, rows_kept, state_held, still_holding}
 use Rattle.fsrm_store.proofs.QuietCalls.{journal_disk, kept_ok, told_journal, told_ok, told_then}
+use Rattle.fsrm_store.proofs.Told.{standing_told}
 use Rattle.fsrm_store.proofs.store.Store.recover.Goals as goal
 
 pub restore-requires-clause-size : goal.restore-requires-clause-size
@@ -39,6 +42,7 @@ returns-clause-stands g c = λ parts told.
       keeps = rows_kept D.reads D.disk_clock D.images c.in_ok-journal.head c.in_ok-engine.engine c.restore.new.journal c.restore.new.disk r;
       size = sym r.size;
       long = r.read.stands.at.store.whole;
+      version = refl;
     }
 
 pub returns-clause-ready : goal.returns-clause-ready
@@ -55,6 +59,12 @@ returns-clause-ready g c = λ parts told.
 
 pub returns-clause-none : goal.returns-clause-none
 returns-clause-none g c = c.in_ok-engine.ensures.same.held ∙ c.in_ok-journal.ensures.none
+
+pub returns-clause-tail : goal.returns-clause-tail
+returns-clause-tail g c = λ parts told.
+    let now = c.in_ok-engine.ensures.quiet.same ∙ c.in_ok-journal.ensures.reads ∙ told in
+    let none = c.in_ok-engine.ensures.same.held ∙ c.in_ok-journal.ensures.none in
+    subst (λ (n : ℕ). HasTail n parts) (sym (since_tail c.restore.new.journal none)) (standing_told parts (returns-clause-stands g c parts told) now).tail
 
 pub returns-clause-old : goal.returns-clause-old
 returns-clause-old g c = λ parts told.

@@ -1,6 +1,9 @@
-use Rattle.std.proofs.Common.{refl}
+use Rattle.std.proofs.Common.{◌≡◌, ◌≤◌, refl, sym, ◌∙◌, arith}
+use Rattle.std.proofs.lemmas.Result.{err_from_is_err_and}
 use Rattle.fsrm_model.specs.store.Lasting.{lasting}
 use Rattle.fsrm_outside.proofs.Stages.{DiskLaws, joined}
+use Rattle.fsrm_store.specs.Amortized.{bytes_since}
+use Rattle.fsrm_store.proofs.Amortizing.{left_none, paid_once, passed, since_flushed, since_none, since_tail, unpaid}
 use Rattle.fsrm_store.proofs.Standings.{flush_leaves, flushed, later_leaves}
 use Rattle.fsrm_store.proofs.store.Store.write.Goals as goal
 
@@ -16,7 +19,7 @@ returns-in_err-change-clause-leaves g c kept s =
     joined laws c.flush.ensures.by c.change.ensures.by
     (flush_leaves c.flush.new.disk s (c.flush.ensures.leaves s.head s.bytes s.bodies s.held s.stands s.holding))
     (later_leaves engine.size kept (lasting engine.rows)
-    (c.change.ensures.leaves (lasting engine.rows) (flushed _ _ s (c.in_ok-flush.ensures.store s.head s.bytes s.bodies s.held s.stands s.holding) c.in_ok-flush.ensures.holding refl refl)))
+    (c.change.ensures.leaves (lasting engine.rows) (flushed _ _ s (c.in_ok-flush.ensures.store s.head s.bytes s.bodies s.held s.stands s.holding) c.in_ok-flush.ensures.holding refl refl refl)))
 
 pub returns-in_ok-change-clause-leaves : goal.returns-in_ok-change-clause-leaves
 returns-in_ok-change-clause-leaves g c kept s =
@@ -26,11 +29,11 @@ returns-in_ok-change-clause-leaves g c kept s =
     joined laws c.flush.ensures.by c.change.ensures.by
     (flush_leaves c.flush.new.disk s (c.flush.ensures.leaves s.head s.bytes s.bodies s.held s.stands s.holding))
     (later_leaves engine.size kept (lasting engine.rows)
-    (c.change.ensures.leaves (lasting engine.rows) (flushed _ _ s (c.in_ok-flush.ensures.store s.head s.bytes s.bodies s.held s.stands s.holding) c.in_ok-flush.ensures.holding refl refl)))
+    (c.change.ensures.leaves (lasting engine.rows) (flushed _ _ s (c.in_ok-flush.ensures.store s.head s.bytes s.bodies s.held s.stands s.holding) c.in_ok-flush.ensures.holding refl refl refl)))
 
 pub returns-in_ok-change-clause-store : goal.returns-in_ok-change-clause-store
 returns-in_ok-change-clause-store g c kept s =
-    c.in_ok-change.ensures.store (lasting c.args.self.now.engine.rows) (flushed _ _ s (c.in_ok-flush.ensures.store s.head s.bytes s.bodies s.held s.stands s.holding) c.in_ok-flush.ensures.holding refl refl)
+    c.in_ok-change.ensures.store (lasting c.args.self.now.engine.rows) (flushed _ _ s (c.in_ok-flush.ensures.store s.head s.bytes s.bodies s.held s.stands s.holding) c.in_ok-flush.ensures.holding refl refl refl)
 
 pub returns-else-tail-max-clause-leaves : goal.returns-else-tail-max-clause-leaves
 returns-else-tail-max-clause-leaves g c kept s =
@@ -38,4 +41,31 @@ returns-else-tail-max-clause-leaves g c kept s =
 
 pub returns-else-tail-max-clause-store : goal.returns-else-tail-max-clause-store
 returns-else-tail-max-clause-store g c kept s =
-    flushed _ _ s (c.in_ok-flush.ensures.store s.head s.bytes s.bodies s.held s.stands s.holding) c.in_ok-flush.ensures.holding refl refl
+    flushed _ _ s (c.in_ok-flush.ensures.store s.head s.bytes s.bodies s.held s.stands s.holding) c.in_ok-flush.ensures.holding refl refl refl
+
+-- ---- looks
+pub returns-in_err-flush-clause-amortized : goal.returns-in_err-flush-clause-amortized
+returns-in_err-flush-clause-amortized g c kept s =
+    let p = err_from_is_err_and c.from_residual-in_err-flush.result c.from_residual-in_err-flush.ensures.1 in
+    unpaid _ _ _ _ _ (omega arith) (left_none _ p.0 _ _ p.1)
+
+pub returns-in_err-change-clause-amortized : goal.returns-in_err-change-clause-amortized
+returns-in_err-change-clause-amortized g c kept s =
+    let p = err_from_is_err_and c.from_residual-in_err-change.result c.from_residual-in_err-change.ensures.1 in
+    let mid : bytes_since c.flush.new.self ≡ bytes_since c.args.self.now.journal = since_flushed _ _ s (c.in_ok-flush.ensures.store s.head s.bytes s.bodies s.held s.stands s.holding) c.in_ok-flush.ensures.none in
+    let tail = since_tail c.flush.new.self c.in_ok-flush.ensures.none in
+    let long = passed c.tail.result c.args.self.now.image c.if-tail-max.true in
+    rw p.1 (paid_once _ _ _ _ _ (omega (arith, c.change.ensures.looks)) (omega (arith, mid, tail, long, c.tail.ensures.between)))
+
+pub returns-in_ok-change-clause-amortized : goal.returns-in_ok-change-clause-amortized
+returns-in_ok-change-clause-amortized g c kept s =
+    let mid : bytes_since c.flush.new.self ≡ bytes_since c.args.self.now.journal = since_flushed _ _ s (c.in_ok-flush.ensures.store s.head s.bytes s.bodies s.held s.stands s.holding) c.in_ok-flush.ensures.none in
+    let tail = since_tail c.flush.new.self c.in_ok-flush.ensures.none in
+    let long = passed c.tail.result c.args.self.now.image c.if-tail-max.true in
+    let left = since_none c.change.new.self.journal c.change.ensures.none c.in_ok-change.ensures.empty in
+    paid_once _ _ _ _ _ (omega (arith, c.change.ensures.looks)) (omega (arith, mid, tail, long, left, c.tail.ensures.between))
+
+pub returns-else-tail-max-clause-amortized : goal.returns-else-tail-max-clause-amortized
+returns-else-tail-max-clause-amortized g c kept s =
+    let same : bytes_since c.flush.new.self ≡ bytes_since c.args.self.now.journal = since_flushed _ _ s (c.in_ok-flush.ensures.store s.head s.bytes s.bodies s.held s.stands s.holding) c.in_ok-flush.ensures.none in
+    unpaid _ _ _ _ _ (omega arith) (omega (arith, same))

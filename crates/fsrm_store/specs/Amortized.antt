@@ -1,0 +1,36 @@
+-- Which looks images take: 2 a node for each, and each comes after more than 1 MiB of records.
+use Rattle.std.specs.Prelude.{ℕ, zero, suc, ◌+◌, ◌*◌, ◌≤◌, List, length, sum_by, Result, Ok, Err}
+use Rattle.fsrm_model.specs.declared.command.Entry.{Entry}
+use Rattle.fsrm_journal.specs.declared.journal.Journal.{Journal}
+use Rattle.record_codec.specs.Entries.{entry as entry_format}
+use Rattle.fsrm_store.specs.Standing.{tail_of}
+use Rattle.fsrm_store.specs.declared.fault.StoreFault.{StoreFault}
+use Rattle.fsrm_store.specs.declared.store.Store.{Store}
+
+-- the bytes of an entry's record: its gate, the length of its body, and the body
+abbrev pub record_bytes : Entry → ℕ
+record_bytes entry = 5 + length (entry_format.spell entry)
+
+abbrev pub entries_bytes : List Entry → ℕ
+entries_bytes entries = sum_by record_bytes entries
+
+-- the bytes of the records that are held. The first of them has no gate yet
+abbrev pub held_bytes : ℕ → List ℕ → ℕ
+held_bytes zero bytes = 0
+held_bytes (suc more) bytes = suc (length bytes)
+
+-- the bytes of all records since the image, those that are held, too
+abbrev pub bytes_since : Journal → ℕ
+bytes_since journal = tail_of journal + held_bytes journal.held journal.bytes.items
+
+-- what is left of them after a call. After a refusal that is at least nothing
+abbrev pub bytes_left : {T : Type 0} → Result T StoreFault → Store → ℕ
+bytes_left (Ok done) store = bytes_since store.journal
+bytes_left (Err fault) store = 0
+
+-- Of records that had so many bytes, 1 MiB and more went for each image that was written, and so many bytes are left. The
+-- images took 2 looks a node, and nothing else took more looks than at first.
+pub record Amortized (nodes looks steps bytes left : ℕ) : Type 0 where
+  pub images : ℕ
+  pub few : steps ≤ looks + images * (2 * nodes)
+  pub paid : images * 1048576 + left ≤ bytes
