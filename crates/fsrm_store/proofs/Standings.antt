@@ -10,16 +10,17 @@ use Rattle.fsrm_model.specs.declared.row.Rows.{Rows}
 use Rattle.fsrm_model.specs.store.Lasting.{lasting}
 use Rattle.fsrm_model.specs.store.Replays.{command_entries, journal_entry}
 use Rattle.fsrm_model.specs.store.Valued.{is_command}
+use Rattle.fsrm_outside.specs.Kept.{KeepsDisk}
 use Rattle.fsrm_outside.specs.Moments.{EachImage, EachNow}
 use Rattle.fsrm_outside.specs.Parts.{Parts, part_of, other}
 use Rattle.fsrm_outside.proofs.Stages.{started, weaker}
 use Rattle.fsrm_journal.specs.Stores.{Holding, HoldsWithOrWithout, Stands, StandsAt}
 use Rattle.fsrm_journal.specs.declared.journal.Journal.{Journal}
-use Rattle.fsrm_journal.proofs.Stores.{each_now, none_here}
+use Rattle.fsrm_journal.proofs.Stores.{each_now, kept_on, none_here}
 use Rattle.fsrm_engine.specs.Machine.{Machine}
 use Rattle.record_codec.specs.Entries.{decoded}
 use Rattle.fsrm_store.specs.Keeps.{HoldsState, Keeps, Spell}
-use Rattle.fsrm_store.specs.Standing.{rows_kept, HoldsEither, KeepsJournal, Leads, StandsAlike, StandsFor}
+use Rattle.fsrm_store.specs.Standing.{rows_kept, HoldsEither, IsReady, KeepsJournal, Leads, StandsAlike, StandsFor}
 use Rattle.fsrm_store.specs.declared.store.Store.{Store}
 use Rattle.fsrm_store.proofs.KeepsLaws.{command_keeps, crash_leaves, flush_keeps, keeps_settled, written_holds}
 
@@ -96,6 +97,26 @@ pub stands_kept : {D : Type 0} {reads : D → Option Parts} {clock : D → Optio
 stands_kept {reads = reads} {clock = clock} {images = images} {kept = kept} {disk = disk} store after k engine s =
     subst (λ (m : Machine). StandsFor reads clock images kept m.rows after disk) (sym engine) (stands_on after s k.journal (ap (λ (m : Machine). m.size) engine) k.image k.is_old)
 
+-- calls of other devices were made
+pub stands_beside : {D : Type 0} {reads : D → Option Parts} {clock : D → Option ℕ} {images : D → ℕ → Parts → Type 0} {faults : D → ℕ} {kept R : Rows} {store : Store} {old new : D} → KeepsDisk reads clock images faults old new
+    → StandsFor reads clock images kept R store old → StandsFor reads clock images kept R store new
+stands_beside keeps s = record {
+  head = s.head;
+  bytes = s.bytes;
+  bodies = s.bodies;
+  held = s.held;
+  stands = kept_on keeps s.stands;
+  holding = s.holding;
+  keeps = s.keeps;
+  size = s.size;
+  long = s.long;
+  version = s.version;
+}
+
+pub ready_beside : {D : Type 0} {reads : D → Option Parts} {clock : D → Option ℕ} {images : D → ℕ → Parts → Type 0} {faults : D → ℕ} {journal : Journal} {old new : D} → KeepsDisk reads clock images faults old new
+    → IsReady reads journal old → IsReady reads journal new
+ready_beside keeps ready parts told = ready parts (sym keeps.same_reads ∙ told)
+
 pub flushed : {D : Type 0} {reads : D → Option Parts} {clock : D → Option ℕ} {images : D → ℕ → Parts → Type 0} {kept R : Rows} {store : Store} {disk : D} (after : Store) (new : D) (s : StandsFor reads clock images kept R store disk)
     → Stands reads clock images s.head s.bytes (s.bodies ++ s.held) after.journal new → Holding [] after.journal → after.engine.size ≡ store.engine.size → after.image ≡ store.image → after.is_old ≡ store.is_old → StandsFor reads clock images (lasting R) R after new
 flushed {kept = kept} {R = R} after new s stands holding sizes long first = record {
@@ -165,12 +186,15 @@ none_held {reads = reads} {clock = clock} {images = images} {kept = kept} {store
     journals sizes long first
 
 -- where no entry is held, what is kept is what is kept of the rows
+pub kept_settled : {D : Type 0} {reads : D → Option Parts} {clock : D → Option ℕ} {images : D → ℕ → Parts → Type 0} {kept R : Rows} {store : Store} {disk : D} → StandsFor reads clock images kept R store disk → store.journal.held ≡ 0 → kept ≡ lasting R
+kept_settled {kept = kept} {R = R} s none =
+    let empty : s.held ≡ [] = none_here s.held (s.holding.count ∙ none) in
+    keeps_settled kept s.head s.bytes s.bodies R (subst (λ (h : List (List ℕ)). Keeps kept s.head s.bytes s.bodies h R) empty s.keeps)
+
 settled_at : {D : Type 0} {reads : D → Option Parts} {clock : D → Option ℕ} {images : D → ℕ → Parts → Type 0} {kept R : Rows} {store : Store} {disk : D} (n : ℕ) → store.journal.held ≡ n
     → StandsFor reads clock images kept R store disk → StandsFor reads clock images (rows_kept n kept R) R store disk
 settled_at {reads = reads} {clock = clock} {images = images} {kept = kept} {R = R} {store = store} {disk = disk} zero none s =
-    let empty : s.held ≡ [] = none_here s.held (s.holding.count ∙ none) in
-    let same : kept ≡ lasting R = keeps_settled kept s.head s.bytes s.bodies R (subst (λ (h : List (List ℕ)). Keeps kept s.head s.bytes s.bodies h R) empty s.keeps) in
-    subst (λ (kept : Rows). StandsFor reads clock images kept R store disk) same s
+    subst (λ (kept : Rows). StandsFor reads clock images kept R store disk) (kept_settled s none) s
 settled_at (suc n) some s = s
 
 pub settled : {D : Type 0} {reads : D → Option Parts} {clock : D → Option ℕ} {images : D → ℕ → Parts → Type 0} {kept R : Rows} {store : Store} {disk : D}

@@ -13,6 +13,7 @@ ghost use Rattle.fsrm_model.specs.store.OldReplays.{old_replayed};
 ghost use Rattle.fsrm_model.specs.store.Replays.{recovered, journal_entry, command_entries, is_valid_entry};
 ghost use Rattle.fsrm_model.specs.store.Valid.{is_valid, IsValid};
 ghost use Rattle.fsrm_model.specs.store.Valued.{is_command};
+ghost use Rattle.fsrm_outside.specs.Kept.{KeepsDisk};
 ghost use Rattle.fsrm_outside.specs.Moments.{EachNow};
 ghost use Rattle.fsrm_outside.specs.Parts.{Parts, part_of};
 ghost use Rattle.fsrm_outside.specs.declared.traits.Part.{Part};
@@ -22,6 +23,7 @@ ghost use Rattle.fsrm_journal.specs.Opened.{judged_parts};
 ghost use Rattle.fsrm_journal.specs.Records.{records};
 ghost use Rattle.fsrm_journal.specs.declared.fault.JournalFault.TheVariants.{NoStore, Damaged};
 ghost use Rattle.fsrm_journal.specs.declared.heads.Head.{Head};
+ghost use Rattle.fsrm_journal.specs.declared.journal.Journal.{Journal};
 ghost use Rattle.record_fields.specs.Laws.{AreBytes};
 ghost use Rattle.record_codec.specs.Entries.{decoded};
 ghost use Rattle.record_codec.specs.Writing.{IsWritable};
@@ -33,7 +35,7 @@ ghost use Rattle.fsrm_store.specs.Keeps.{Spell, HoldsState, HoldsOldState, Keeps
 ghost use Rattle.fsrm_store.specs.States.{state_of};
 ghost use Rattle.fsrm_store.specs.States.State.{NoState, DamagedAt, Holds};
 ghost use Rattle.fsrm_store.specs.Reads.{Rules, image_bytes, ComesTo};
-ghost use Rattle.fsrm_store.specs.Standing.{IsTold, KeepsJournal, Standing, StandsAlike};
+ghost use Rattle.fsrm_store.specs.Standing.{IsReady, IsTold, KeepsJournal, Standing, StandsAlike};
 ghost use Rattle.fsrm_store.specs.declared.store.Store.{Store};
 ghost use Rattle.fsrm_store.specs.WorkedStates.{no_bytes, closed_gates, new_store, no_part, newer_half, equal_halves, wrong_version, cut_image, short_image, short_part, wrong_rows, one_record, refused_record, closed_record, no_gate, no_length, length_zero, no_body, no_next_gate, wrong_kind, wrong_owner, long_body};
 
@@ -112,6 +114,12 @@ pub fn calls()
 pub fn standing<D: Disk>()
     ensures now { (kept : Rows) (store : Store) (disk : D) → Standing D.reads D.disk_clock D.images kept store disk → EachNow D.disk_clock D.images (HoldsState store.engine.size kept) disk }
     ensures told { (kept : Rows) (store : Store) (disk : D) (parts : Parts) → Standing D.reads D.disk_clock D.images kept store disk → D.reads disk ≡ Some parts → IsTold kept store parts }
+    // If no entry is held it is what is kept of the rows.
+    ensures settled { (kept : Rows) (store : Store) (disk : D) → Standing D.reads D.disk_clock D.images kept store disk → store.journal.held ≡ 0 → kept ≡ lasting store.engine.rows }
+    // Calls of other devices change neither.
+    ensures others { (kept : Rows) (store : Store) (old new : D) → KeepsDisk D.reads D.disk_clock D.images D.disk_faults old new → Standing D.reads D.disk_clock D.images kept store old → Standing D.reads D.disk_clock D.images kept store new }
+    ensures ready { (journal : Journal) (old new : D) → KeepsDisk D.reads D.disk_clock D.images D.disk_faults old new → IsReady D.reads journal old → IsReady D.reads journal new }
+    // Nor does a call that was refused for want of memory.
     ensures kept { (kept : Rows) (store after : Store) (disk : D) → KeepsJournal store after → after.engine ≡ store.engine → Standing D.reads D.disk_clock D.images kept store disk → Standing D.reads D.disk_clock D.images kept after disk }
     ensures alike { (kept : Rows) (store after : Store) (disk : D) → StandsAlike store after → Standing D.reads D.disk_clock D.images kept store disk → Standing D.reads D.disk_clock D.images kept after disk }
 {}
