@@ -15,25 +15,15 @@ mod audits;
 #[cfg(test)]
 mod chances;
 #[cfg(test)]
-mod codec_entries;
-#[cfg(test)]
-mod crashes;
-#[cfg(test)]
 mod devices;
 #[cfg(test)]
 mod disks;
 #[cfg(test)]
 mod engines;
 #[cfg(test)]
-mod fields;
-#[cfg(test)]
 mod finishes;
 #[cfg(test)]
 mod groups;
-#[cfg(test)]
-mod images;
-#[cfg(test)]
-mod journals;
 #[cfg(test)]
 mod lists;
 #[cfg(test)]

@@ -1,10 +1,7 @@
 //! Values that the tests are made of: the one place to mend if a public type gets a field.
 
 ghost use Rattle.std.specs.Prelude.{◌≡◌, [], ◌∷◌, true, IfOk, codes};
-ghost use Rattle.std.specs.List.{list_all};
 ghost use Rattle.fsrm_objects.specs.Tables.{has_short_texts};
-ghost use Rattle.image_codec.specs.Pieces.{pieces};
-ghost use Rattle.image_codec.specs.PiecesLeft.{piece_fits};
 
 use fsrm_model::{Capacity, List, NodeRow, Path, QuotaRow, QuotaState, Rows, Text};
 use std::alloc::Global;
@@ -75,9 +72,7 @@ pub fn one<T: Drop>(alloc: Global, item: T) -> Result<List<T>, Fail>
 }
 
 /// The rows of a new store.
-pub fn new_rows(alloc: Global) -> Result<Rows, Fail>
-    ensures { IfOk result (λ R. list_all piece_fits (pieces R) ≡ true) }
-{
+pub fn new_rows(alloc: Global) -> Result<Rows, Fail> {
     let root = folder(alloc, 0, 0, "")?;
     Ok(Rows {
         nodes: one(alloc, root)?,

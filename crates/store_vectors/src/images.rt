@@ -5,11 +5,20 @@ ghost use Rattle.std.specs.List.{list_all};
 ghost use Rattle.image_codec.specs.Pieces.{pieces};
 ghost use Rattle.image_codec.specs.PiecesLeft.{piece_fits};
 
-use crate::values::new_rows;
-use fsrm_model::{ReportKind, Rows};
+use fsrm_engine::Engine;
+use fsrm_model::{Capacity, Ledger, ReportKind, Rows, Steps, Weightless};
 use image_codec::{CodecFault, ImageIn, ImageOut, image_len};
 use std::alloc::Global;
+use std::marker::Brand;
+use std::process::Abort;
+use std::sync::ledger::{Blank, Ledger as Named};
 use std::test::Fail;
+
+const SIZE: Capacity = Capacity {
+    nodes: 2,
+    names: 256,
+    cluster: 4_096,
+};
 
 // The image of a new store: the last moment, the run limit, the root, and nine lists that are empty.
 const NEW: [u8; 99] = [
@@ -19,7 +28,7 @@ const NEW: [u8; 99] = [
     0, 0, 0, 0,
 ];
 
-// What is written into buffers of one length.
+// What is written into buffers of one length, at most a hundred of them.
 fn written(alloc: Global, rows: &Rows, size: usize) -> Result<Vec<u8>, Fail>
     requires { list_all piece_fits (pieces rows.now) ≡ true }
 {
@@ -33,15 +42,57 @@ fn written(alloc: Global, rows: &Rows, size: usize) -> Result<Vec<u8>, Fail>
     Ok(bytes)
 }
 
-#[test]
-fn new_image_written(rt: HostRuntime) -> Result<(), Fail> {
-    let rows = new_rows(rt.alloc())?;
-    assert!(rt; image_len(&rows) == 99);
+// The rows of an engine.
+fn rows_of<L: Ledger>(alloc: Global, engine: &Engine, steps: &mut Steps<L>) -> Result<Rows, Fail>
+    ensures { IfOk result (λ R. list_all piece_fits (pieces R) ≡ true) }
+{
+    // These are called for their clauses: that the size and the rows are those of a store.
+    let _size = engine.tree().capacity();
+    let _objects = engine.objects();
+    Ok(engine.to_rows(alloc, steps)?)
+}
+
+/// The image of what an engine holds, up to 102,400 bytes of it.
+pub fn image_of<L: Ledger>(
+    alloc: Global,
+    engine: &Engine,
+    steps: &mut Steps<L>,
+) -> Result<Vec<u8>, Fail> {
+    let rows = rows_of(alloc, engine, steps)?;
+    written(alloc, &rows, 1_024)
+}
+
+fn new_rows<L: Ledger>(alloc: Global, steps: &mut Steps<L>) -> Result<Rows, Fail>
+    ensures { IfOk result (λ R. list_all piece_fits (pieces R) ≡ true) }
+{
+    let engine = Engine::new(alloc, SIZE)?;
+    rows_of(alloc, &engine, steps)
+}
+
+fn is_written(alloc: Global, rows: &Rows, size: usize) -> Result<bool, Fail>
+    requires { list_all piece_fits (pieces rows.now) ≡ true }
+{
+    let bytes = written(alloc, rows, size)?;
+    Ok(bytes.as_slice() == NEW.as_slice())
+}
+
+fn new_written<N: Named>(rt: &HostRuntime, end: &impl Abort, blank: Blank) -> Result<(), Fail>
+    requires name { blank.name ≡ N.name }
+    requires parts { blank.parts ≡ N.parts }
+    requires one { blank.parts ≡ 1 }
+{
+    let mut steps = Steps::new(rt, Weightless::<N>::of(blank));
+    let rows = new_rows(rt.alloc(), &mut steps)?;
+    assert!(end; image_len(&rows) == 99);
     for size in [1, 7, 98, 99, 100] {
-        let bytes = written(rt.alloc(), &rows, size)?;
-        assert!(rt; bytes.as_slice() == NEW.as_slice());
+        assert!(end; is_written(rt.alloc(), &rows, size)?);
     }
     Ok(())
+}
+
+#[test]
+fn new_image_written(rt: HostRuntime) -> Result<(), Fail> {
+    new_written::<Brand>(&rt, &rt, Blank::new(1))
 }
 
 // What is read of pieces, of which an image of so many bytes consists.

@@ -1,0 +1,28 @@
+//! What no clause says of the crates that keep a store: that each public call succeeds with ample memory, that the bytes
+//! are those of the formats (`docs/FORMATS.md`), and that a store which is stopped, damaged or filled is found as it has
+//! to be. The expected values were worked out by hand. The tests of all other crates stand in `vectors`, which says how a
+//! test is kept short to prove.
+#![tactic(auto)]
+
+#[cfg(test)]
+mod codec_entries;
+#[cfg(test)]
+mod crashes;
+#[cfg(test)]
+mod fields;
+#[cfg(test)]
+mod images;
+#[cfg(test)]
+mod journals;
+#[cfg(test)]
+mod store_bytes;
+#[cfg(test)]
+mod store_calls;
+#[cfg(test)]
+mod store_groups;
+#[cfg(test)]
+mod store_halves;
+#[cfg(test)]
+mod store_stops;
+#[cfg(test)]
+mod stores;
