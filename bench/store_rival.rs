@@ -1,5 +1,5 @@
-//! `store_rival init`, `take GROUP`, `recover ROUNDS` or `checkpoint ROUNDS`: what `store_runs` does, with the same files,
-//! without proofs. It knows file operations, and a quota of the root without thresholds, which it scans at once.
+//! `store_rival init`, `take GROUP`, `recover ROUNDS` or `checkpoint ROUNDS`: what `store_runs` does, with the same
+//! files, without proofs. It knows file operations, and a quota of the root without thresholds, which it scans at once.
 //! bench/store times both.
 
 // What only bench/rival calls is of no use here.
@@ -243,8 +243,17 @@ impl Machine {
 
     fn make(&mut self, path: &[u8], folder: bool, length: u64, owner: u64, moment: u64) -> Option<()> {
         let (parent, name) = self.place(path)?;
-        let (created, modified, accessed) = (moment, moment, moment);
-        let made = Node { parent, name: Some(name.into()), folder, children: 0, length, owner: owner as u32, created, modified, accessed };
+        let made = Node {
+            parent,
+            name: Some(name.into()),
+            folder,
+            children: 0,
+            length,
+            owner: owner as u32,
+            created: moment,
+            modified: moment,
+            accessed: moment,
+        };
         self.change_used(0, made.allocated())?;
         let number = self.free.pop().map_or(self.nodes.len() as u32, |least| least.0);
         if number as usize == self.nodes.len() {
@@ -403,7 +412,8 @@ struct Store {
 
 fn head(generation: u64, image: usize) -> Vec<u8> {
     let sizes = SIZES.map(u32::to_le_bytes).concat();
-    [&[1, 0, 0, 0, 0, 0, 0, 0], b"FSRMHALF".as_slice(), &generation.to_le_bytes(), &sizes, &(image as u64).to_le_bytes()].concat()
+    let numbers = [generation.to_le_bytes().as_slice(), &sizes, &(image as u64).to_le_bytes()].concat();
+    [&1u64.to_le_bytes(), b"FSRMHALF".as_slice(), &numbers].concat()
 }
 
 fn opened() -> Result<[File; 2]> {
@@ -447,8 +457,8 @@ impl Store {
         let (generation, image) = heads[ruling].ok_or_else(damaged)?;
         let half = &parts[ruling];
         let machine = half.get(HEAD..HEAD + image).and_then(Machine::of_image).ok_or_else(damaged)?;
-        let (group, held, bytes) = (1, 0, Vec::new());
-        let mut store = Store { files, open, ruling, generation, image, end: HEAD + image, group, held, bytes, machine };
+        let (end, group, held, bytes) = (HEAD + image, 1, 0, Vec::new());
+        let mut store = Store { files, open, ruling, generation, image, end, group, held, bytes, machine };
         store.replay(half).ok_or_else(damaged)?;
         Ok(store)
     }

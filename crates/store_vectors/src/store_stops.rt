@@ -40,12 +40,9 @@ struct Reach {
     kept: usize,
 }
 
-// The images of the rows after no line, after one, and so on.
-type Images = Vec<Vec<u8>>;
-
 // Whether the image is that of the rows after some lines: at least those that are kept, and at most those that were
 // begun.
-fn is_reached(images: &Images, reach: Reach, image: &[u8]) -> bool {
+fn is_reached(images: &[Vec<u8>], reach: Reach, image: &[u8]) -> bool {
     for (count, each) in images.iter().enumerate() {
         if reach.kept <= count && count <= reach.begun && each.as_slice() == image {
             return true;
@@ -108,7 +105,7 @@ fn run<D: Disk, L: Ledger>(
 fn is_found<D: Disk, L: Ledger>(
     alloc: Global,
     disk: &mut D,
-    images: &Images,
+    images: &[Vec<u8>],
     reach: Reach,
     steps: &mut Steps<L>,
 ) -> Result<bool, Fail> {
@@ -121,13 +118,13 @@ fn is_found<D: Disk, L: Ledger>(
 #[derive(Drop)]
 struct Trial<'a> {
     new: &'a MemoryOutside,
-    images: &'a Images,
+    images: &'a [Vec<u8>],
     group: u32,
     ghost some: { 1 ≤ group },
     ghost most: { group ≤ 1024 },
 }
 
-const fn trial<'a>(new: &'a MemoryOutside, images: &'a Images, group: u32) -> Trial<'a>
+const fn trial<'a>(new: &'a MemoryOutside, images: &'a [Vec<u8>], group: u32) -> Trial<'a>
     requires some { 1 ≤ group }
     requires most { group ≤ 1024 }
 {
@@ -144,49 +141,57 @@ fn calls<L: Ledger>(trial: &Trial<'_>, alloc: Global, steps: &mut Steps<L>) -> R
     Ok(disk.calls())
 }
 
-// Whether a run that is stopped at a call says so, and leaves a store that it may.
-fn stops<L: Ledger>(
+// Whether a run over this disk says that a call failed, and leaves a store that it may, after a crash if one is picked.
+fn survives<L: Ledger>(
     trial: &Trial<'_>,
     alloc: Global,
-    stop: u64,
+    disk: &mut MemoryOutside,
+    pick: Option<Pick>,
+    steps: &mut Steps<L>,
+) -> Result<bool, Fail> {
+    let mut reach = BEGINNING;
+    let ended = run(alloc, disk, trial.group, &mut reach, steps);
+    if let Some(pick) = pick {
+        disk.crash(pick);
+    }
+    let is_told = ended == Err(StoreFault::DiskFault);
+    Ok(is_told && is_found(alloc, disk, trial.images, reach, steps)?)
+}
+
+fn survives_stop<L: Ledger>(
+    trial: &Trial<'_>,
+    alloc: Global,
+    call: u64,
     pick: Pick,
     steps: &mut Steps<L>,
 ) -> Result<bool, Fail> {
     let mut disk = copy(alloc, trial.new, 0)?;
-    disk.stop_at(stop);
-    let mut reach = BEGINNING;
-    let ended = run(alloc, &mut disk, trial.group, &mut reach, steps);
-    disk.crash(pick);
-    let is_told = ended == Err(StoreFault::DiskFault);
-    Ok(is_told && is_found(alloc, &mut disk, trial.images, reach, steps)?)
+    disk.stop_at(call);
+    survives(trial, alloc, &mut disk, Some(pick), steps)
 }
 
-// The same of a run in which one call fails, without a crash.
-fn fails<L: Ledger>(
-    trial: &Trial<'_>,
-    alloc: Global,
-    call: u64,
-    steps: &mut Steps<L>,
-) -> Result<bool, Fail> {
-    let mut disk = copy(alloc, trial.new, call)?;
-    let mut reach = BEGINNING;
-    let ended = run(alloc, &mut disk, trial.group, &mut reach, steps);
-    let is_told = ended == Err(StoreFault::DiskFault);
-    Ok(is_told && is_found(alloc, &mut disk, trial.images, reach, steps)?)
-}
-
-fn survives<L: Ledger>(
+fn survives_stops<L: Ledger>(
     trial: &Trial<'_>,
     alloc: Global,
     call: u64,
     steps: &mut Steps<L>,
 ) -> Result<bool, Fail> {
     for pick in [Pick::Lost, Pick::Taken, Pick::Fill(1), Pick::Fill(255)] {
-        if !stops(trial, alloc, call, pick, steps)? {
+        if !survives_stop(trial, alloc, call, pick, steps)? {
             return Ok(false);
         }
     }
-    fails(trial, alloc, call, steps)
+    Ok(true)
+}
+
+fn survives_fault<L: Ledger>(
+    trial: &Trial<'_>,
+    alloc: Global,
+    call: u64,
+    steps: &mut Steps<L>,
+) -> Result<bool, Fail> {
+    let mut disk = copy(alloc, trial.new, call)?;
+    survives(trial, alloc, &mut disk, None, steps)
 }
 
 fn survives_each<L: Ledger>(
@@ -196,21 +201,19 @@ fn survives_each<L: Ledger>(
     steps: &mut Steps<L>,
 ) -> Result<(), Fail> {
     for call in 0..calls(trial, alloc, steps)? {
-        assert!(end;
-            survives(trial, alloc, call + 1, steps)?,
-            "at call {}",
-            call + 1
-        );
+        assert!(end; survives_stops(trial, alloc, call + 1, steps)?);
+        assert!(end; survives_fault(trial, alloc, call + 1, steps)?);
     }
     Ok(())
 }
 
+// The images of the rows before the first line and after each one.
 fn collect<D: Disk, L: Ledger>(
     store: &mut Store,
     alloc: Global,
     disk: &mut D,
     steps: &mut Steps<L>,
-) -> Result<Images, Fail>
+) -> Result<Vec<Vec<u8>>, Fail>
     requires { IsOpen D.reads store.old disk.old }
 {
     let mut images = Vec::new(alloc);
@@ -226,7 +229,7 @@ fn images<L: Ledger>(
     alloc: Global,
     new: &MemoryOutside,
     steps: &mut Steps<L>,
-) -> Result<Images, Fail> {
+) -> Result<Vec<Vec<u8>>, Fail> {
     let mut disk = copy(alloc, new, 0)?;
     let mut store = open(alloc, &mut disk, 1, steps)?;
     collect(&mut store, alloc, &mut disk, steps)
@@ -240,15 +243,8 @@ fn all<N: Named>(rt: &HostRuntime, end: &impl Abort, blank: Blank) -> Result<(),
     let mut steps = Steps::new(rt, Weightless::<N>::of(blank));
     let new = new_store(rt.alloc())?;
     let images = images(rt.alloc(), &new, &mut steps)?;
-    for group in [1, 4] {
-        let trial = Trial {
-            new: &new,
-            images: &images,
-            group,
-        };
-        survives_each(&trial, rt.alloc(), end, &mut steps)?;
-    }
-    Ok(())
+    survives_each(&trial(&new, &images, 1), rt.alloc(), end, &mut steps)?;
+    survives_each(&trial(&new, &images, 4), rt.alloc(), end, &mut steps)
 }
 
 #[test]
