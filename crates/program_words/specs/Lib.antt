@@ -1,0 +1,5 @@
+pub mod Command
+pub mod Taking
+pub mod Numbers
+pub mod Modes
+pub mod Worked

@@ -1,0 +1,91 @@
+-- What the words ask for: the rules of each mode, over what clap finds in the words.
+use Rattle.std.specs.Prelude.{⊤, ◌≡◌, ℕ, ◌≤◌, ◌==◌, ◌&&◌, ◌||◌, nat_le, Bool, true, false, not, List, [], length, Option, Some, None, is_some, if◌then◌else◌, codes, bytes_eq, unwrap_or}
+use Rattle.std.specs.Option.{option_map_or}
+use Rattle.clap.specs.Words.{Row, Text, all_of, first_of, fault_of, matches_of}
+use Rattle.fsrm_model.specs.declared.row.Capacity.{Capacity}
+use Rattle.fsrm_model.specs.nodes.Fresh.{default_capacity}
+use Rattle.fsrm_model.specs.store.Capacities.{is_capacity}
+use Rattle.program_words.specs.Command.{fsrm_app}
+use Rattle.program_words.specs.Numbers.{number_of}
+use Rattle.program_words.specs.declared.modes.Mode.{Mode}
+use Rattle.program_words.specs.declared.modes.Mode.TheVariants.{Init, Replay, Show}
+
+-- what is read next, if this could be read
+infixl 10 ◌>>=◌
+abbrev pub ◌>>=◌ : {A B : Type 0} → Option A → (A → Option B) → Option B
+(Some x) >>= f = f x
+None >>= f = None
+
+-- x, if the test holds
+abbrev pub guarded : {A : Type 0} → Bool → A → Option A
+guarded true x = Some x
+guarded false x = None
+
+abbrev pub is_empty : {A : Type 0} → List A → Bool
+is_empty xs = length xs == 0
+
+-- the words after the one that names the mode
+abbrev pub rest_of : List Row → List Text
+rest_of rows = unwrap_or (all_of (codes "REST") rows) []
+
+abbrev pub has_rest : List Row → Bool
+has_rest rows = not (is_empty (rest_of rows))
+
+-- whether an option is given
+abbrev pub gives : Text → List Row → Bool
+gives id rows = is_some (first_of id rows)
+
+-- whether an option is given that says how large a new store is
+abbrev pub gives_size : List Row → Bool
+gives_size rows = gives (codes "nodes") rows || (gives (codes "names") rows || gives (codes "cluster") rows)
+
+-- the number that an option gives, or what holds without it
+abbrev pub number_or : ℕ → Text → List Row → Option ℕ
+number_or usual id rows = option_map_or number_of (first_of id rows) (Some usual)
+
+abbrev pub size_of : List Row → Option Capacity
+size_of rows = do
+  nodes ← number_or default_capacity.nodes (codes "nodes") rows
+  names ← number_or default_capacity.names (codes "names") rows
+  cluster ← number_or default_capacity.cluster (codes "cluster") rows
+  Some (record { nodes = nodes; names = names; cluster = cluster })
+
+-- how many records may be made stable at once
+abbrev pub is_group : ℕ → Bool
+is_group records = nat_le 1 records && nat_le records 1024
+
+abbrev pub init_mode : List Row → Option Mode
+init_mode rows = do
+  size ← size_of rows
+  guarded (is_capacity size && (not (gives (codes "group") rows) && not (has_rest rows))) (Init size)
+
+abbrev pub replay_mode : List Row → Option Mode
+replay_mode rows = do
+  group ← number_or 1 (codes "group") rows
+  guarded (is_group group && (not (gives_size rows) && not (has_rest rows))) (Replay group)
+
+abbrev pub show_mode : List Row → Option Mode
+show_mode rows = guarded (not (gives_size rows) && (not (gives (codes "group") rows) && not (has_rest rows))) Show
+
+-- the modes, by the words that name them
+abbrev pub named_mode : Text → List Row → Option Mode
+named_mode name rows =
+    if bytes_eq name (codes "init") then init_mode rows
+    else if bytes_eq name (codes "replay") then replay_mode rows
+    else if bytes_eq name (codes "show") then show_mode rows
+    else None
+
+abbrev pub mode_of : List Row → Option Mode
+mode_of rows = do
+  name ← first_of (codes "MODE") rows
+  named_mode name rows
+
+-- what the words ask for, if clap takes them as the program's command, and they meet the rules of a mode
+abbrev pub mode : List Text → Option Mode
+mode words = if is_empty (fault_of fsrm_app words) then mode_of (matches_of fsrm_app words) else None
+
+-- what a mode carries is in range
+abbrev pub IsLegal : Mode → Type 0
+IsLegal (Init size) = is_capacity size ≡ true
+IsLegal (Replay group) = (1 ≤ group) × (group ≤ 1024)
+IsLegal Show = ⊤

@@ -1,0 +1,86 @@
+-- Some words, and what they ask for.
+use Rattle.std.specs.Prelude.{◌≡◌, ◌==◌, ℕ, Bool, [], Some, None, codes}
+use Rattle.std.specs.List.{slice_split}
+use Rattle.clap.specs.Words.{Text}
+use Rattle.program_words.specs.Modes.{mode}
+use Rattle.program_words.specs.declared.modes.Mode.{Mode}
+use Rattle.program_words.specs.declared.modes.Mode.TheVariants.{Init, Replay, Show}
+
+abbrev pub is_blank : ℕ → Bool
+is_blank byte = byte == 32
+
+-- the words of this line, with one blank between two of them, ask for this mode, or for nothing
+abbrev pub asks : Text → Mode → Type 0
+asks line asked = mode (slice_split is_blank line) ≡ Some asked
+
+abbrev pub asks_nothing : Text → Type 0
+asks_nothing line = mode (slice_split is_blank line) ≡ None
+
+-- a store of the usual size, and of others
+abbrev pub new_stores : Type 0
+new_stores =
+    asks (codes "init") (Init (record { nodes = 65536; names = 4194304; cluster = 4096 }))
+    × asks (codes "init --nodes 2 --names 256 --cluster 512") (Init (record { nodes = 2; names = 256; cluster = 512 }))
+    × asks (codes "--cluster=65536 init --nodes=1048576") (Init (record { nodes = 1048576; names = 4194304; cluster = 65536 }))
+
+-- each size has its range
+abbrev pub sizes_out_of_range : Type 0
+sizes_out_of_range =
+    asks_nothing (codes "init --nodes 1")
+    × asks_nothing (codes "init --nodes 1048577")
+    × asks_nothing (codes "init --names 255")
+    × asks_nothing (codes "init --names 268435457")
+    × asks_nothing (codes "init --cluster 1000")
+
+-- an option stands before its mode or after it, in one word or in two
+abbrev pub groups : Type 0
+groups =
+    asks (codes "replay") (Replay 1)
+    × asks (codes "replay --group 1024") (Replay 1024)
+    × asks (codes "--group 8 replay") (Replay 8)
+    × asks (codes "replay --group=8") (Replay 8)
+    × asks_nothing (codes "replay --group 0")
+    × asks_nothing (codes "replay --group 1025")
+
+-- a number has 1 to 20 digits, and nothing else
+abbrev pub numbers : Type 0
+numbers =
+    asks (codes "replay --group 00000000000000000008") (Replay 8)
+    × asks_nothing (codes "replay --group 000000000000000000008")
+    × asks_nothing (codes "replay --group +8")
+    × asks_nothing (codes "replay --group -8")
+    × asks_nothing (codes "replay --group=")
+    × asks_nothing (codes "replay --group")
+    × asks_nothing (codes "replay --group 18446744073709551616")
+
+-- an option is given once, and with its own mode alone
+abbrev pub options : Type 0
+options =
+    asks_nothing (codes "replay --group 8 --group 8")
+    × asks_nothing (codes "init --group 1")
+    × asks_nothing (codes "replay --nodes 8")
+    × asks_nothing (codes "show --group 1")
+    × asks_nothing (codes "show --cluster 4096")
+    × asks_nothing (codes "show --size 8")
+
+-- no word follows the mode but `--`, by which clap ends the options
+abbrev pub other_words : Type 0
+other_words =
+    asks (codes "show") Show
+    × asks (codes "replay --") (Replay 1)
+    × asks (codes "-- show") Show
+    × asks_nothing (codes "show 1")
+    × asks_nothing (codes "replay show")
+    × asks_nothing (codes "replay -- --group")
+
+-- a mode is named in lower case, and help and version are no modes
+abbrev pub no_modes : Type 0
+no_modes =
+    (mode [] ≡ None)
+    × asks_nothing (codes "")
+    × asks_nothing (codes "Replay")
+    × asks_nothing (codes "replays")
+    × asks_nothing (codes "--group 8")
+    × asks_nothing (codes "--help")
+    × asks_nothing (codes "-V")
+    × asks_nothing (codes "replay --help")

@@ -1,0 +1,45 @@
+//! Numbers in words.
+
+ghost use Rattle.std.specs.Prelude.{◌≡◌, ◌≤◌, ◌^◌, true, IfSome, IfNone};
+ghost use Rattle.std.specs.Char.{is_ascii_digit};
+ghost use Rattle.std.specs.List.{list_all};
+ghost use Rattle.std.specs.Str.Parse.{digits_value};
+ghost use Rattle.fsrm_model.specs.lines.Reading.{is_number};
+ghost use Rattle.program_words.specs.Numbers.{number_of};
+
+const MOST_DIGITS: usize = 20;
+
+fn are_digits(text: &[u8]) -> bool
+    ensures { result ≡ list_all is_ascii_digit text.now }
+{
+    text.iter().all(|byte| byte.is_ascii_digit())
+}
+
+fn is_number(text: &str) -> bool
+    ensures { result ≡ is_number text.now }
+{
+    0 < text.len() && text.len() <= MOST_DIGITS && are_digits(text.as_bytes())
+}
+
+// The number that digits write. None if it doesn't fit 32 bits.
+fn value_of(text: &str) -> Option<u32>
+    requires { is_number text.now ≡ true }
+    ensures fits { IfSome result (λ n. n ≡ digits_value 10 text.now) }
+    ensures too_large { IfNone result (2 ^ 32 ≤ digits_value 10 text.now) }
+{
+    match text.parse::<u32>() {
+        Ok(number) => Some(number),
+        Err(_) => None,
+    }
+}
+
+/// The number of 32 bits that a text writes in 1 to 20 digits.
+pub fn number_of(text: &str) -> Option<u32>
+    ensures { result ≡ number_of text.now }
+{
+    if is_number(text) {
+        value_of(text)
+    } else {
+        None
+    }
+}
