@@ -49,16 +49,6 @@ outcome_on before now own within on more =
     (ap (λ (b : List ℕ). now.came + length b) here ∙ omega (arith, on.came, length-append own later) ∙ sym (ap (λ (b : List ℕ). before.came + length b) all))
     (ap (resumed now) here ∙ on.goes_on later ∙ sym (ap (resumed before) all))
 
--- what is read of the bytes that are held leaves these
-pub reads_further : {before now : ImageIn} {own : List ℕ} (held : ImageIn) (bytes rest : List ℕ) → ReadsOn before own held → bytes ≡ held.held.items → now.held.items ≡ rest → now.len ≡ held.len → now.came ≡ held.came
-    → ((more : List ℕ) → resume now.section now.rows now.still (rest ++ more) ≡ resume held.section held.rows held.still (bytes ++ more)) → ReadsOn before own now
-reads_further {now = now} held bytes rest on all left len came further = record {
-  len = len ∙ on.len;
-  came = came ∙ on.came;
-  goes_on = λ more. ap (λ (b : List ℕ). resume now.section now.rows now.still (b ++ more)) left ∙ further more
-      ∙ ap (λ (b : List ℕ). resume held.section held.rows held.still (b ++ more)) all ∙ on.goes_on more;
-}
-
 -- ---- damage that no bytes can mend
 pub illegal_outcome : (before : ImageIn) (own beyond : List ℕ) (left place : ℕ) → length own ≤ before.len - before.came → place ≡ before.came + length own - left
     → ((more : List ℕ) → resumed before (own ++ more) ≡ Err (Illegal (left + length more))) → (more : List ℕ) → outcome before ((own ++ beyond) ++ more) ≡ Err place

@@ -7,7 +7,6 @@ ghost use Rattle.image_codec.specs.ImageIn.{AreRead, ReadsOn, past_end, resumed,
 ghost use Rattle.image_codec.specs.Images.{image_in};
 ghost use Rattle.image_codec.specs.Sections.{Pauses, no_rows};
 
-use crate::encoding::LONGEST_PIECE;
 use crate::reading::{Pause, go_on};
 use crate::section::Section;
 use fsrm_base::List;
@@ -15,6 +14,9 @@ use fsrm_model::Rows;
 use record_codec::CodecFault;
 use record_fields::{FieldFault, Flaw};
 use std::alloc::Global;
+
+// How many bytes of a piece are taken at once: so many that what is held stays where the processor has it at hand.
+const BITE: usize = 4_096;
 
 /// A reader of an image that comes in pieces. It holds the rows that were read, and the bytes of the next one, which it
 /// reads as soon as so many of them are due.
@@ -54,6 +56,33 @@ impl ImageIn {
         // Damage is told only where no bytes that follow can mend it.
         ensures damaged { (place : ℕ) → result ≡ Err (BadRecord place) → (more : Items ℕ) → outcome self.old (bytes.now ++ more) ≡ Err place }
     {
+        let mut rest = bytes;
+        while !rest.is_empty() {
+            let (bite, after) = rest.split_at(rest.len().min(BITE));
+            self.feed_bite(bite)?;
+            rest = after;
+        }
+        Ok(())
+    }
+
+    /// The rows, if all bytes came, and they spell an image.
+    pub fn finish(self) -> Result<Rows, CodecFault>
+        ensures { AreRead result (outcome self []) }
+    {
+        let mut reader = self;
+        let cut = reader.read_on(&[])?;
+        let held = reader.held.as_slice().len();
+        if cut.is_some() || held > 0 || reader.came != reader.len {
+            return Err(bad_record(reader.came, cut.unwrap_or(held)));
+        }
+        Ok(reader.rows)
+    }
+
+    // Takes some bytes of a piece. Contracts say of it what they say of a piece.
+    fn feed_bite(&mut self, bytes: &[u8]) -> Result<(), CodecFault>
+        ensures goes_on { IfOk result (λ u. (more : Items ℕ) → outcome self.new more ≡ outcome self.old (bytes.now ++ more)) }
+        ensures damaged { (place : ℕ) → result ≡ Err (BadRecord place) → (more : Items ℕ) → outcome self.old (bytes.now ++ more) ≡ Err place }
+    {
         let room = self.len.saturating_sub(self.came);
         let count = (bytes.len() as u64).min(room) as usize;
         let (own, beyond) = bytes.split_at(count);
@@ -70,19 +99,6 @@ impl ImageIn {
             return Err(bad_record(self.came, cut.unwrap_or(held)));
         }
         Ok(())
-    }
-
-    /// The rows, if all bytes came, and they spell an image.
-    pub fn finish(self) -> Result<Rows, CodecFault>
-        ensures { AreRead result (outcome self []) }
-    {
-        let mut reader = self;
-        let cut = reader.read_on(&[])?;
-        let held = reader.held.as_slice().len();
-        if cut.is_some() || held > 0 || reader.came != reader.len {
-            return Err(bad_record(reader.came, cut.unwrap_or(held)));
-        }
-        Ok(reader.rows)
     }
 
     // Takes bytes, and reads none yet.
@@ -120,7 +136,10 @@ impl ImageIn {
                     cut,
                 },
             ) => {
-                self.held = copied(self.alloc, rest)?;
+                // So the memory of what is held is kept for the next bytes.
+                let next = copied(self.alloc, rest)?;
+                self.held.clear();
+                extend(&mut self.held, next.as_slice())?;
                 self.due = due_after(self.held.len());
                 self.section = section;
                 self.still = still;
@@ -133,11 +152,11 @@ impl ImageIn {
     }
 }
 
-// How many bytes of a row that hasn't come whole are to be there when it is read again. A row that is longer than any of
-// a store, which only damage makes, is read again when it is twice as long: so all its readings together take no more
-// than some bytes for each of its own, however small the pieces are.
+// How many bytes of a row that hasn't come whole are to be there when it is read again. A long one is read again when it
+// is twice as long: so all its readings together take no more than some bytes for each of its own, however small the
+// pieces are.
 fn due_after(held: usize) -> usize {
-    if held > LONGEST_PIECE {
+    if held > BITE {
         return held.saturating_mul(2);
     }
     0

@@ -1,7 +1,6 @@
-use Rattle.std.proofs.Common.{ℕ, ◌-◌, List, ◌++◌, Err, refl, sym, ap, ◌∙◌}
+use Rattle.std.proofs.Common.{ℕ, ◌-◌, List, ◌++◌, Err, sym, ap, ◌∙◌}
 use Rattle.record_fields.specs.declared.flaw.FieldFault.TheVariants.{Flawed}
 use Rattle.image_codec.specs.Sections.{resume}
-use Rattle.image_codec.proofs.ImageInLaws.{reads_further}
 use Rattle.image_codec.proofs.image_in.ImageIn.read_on.Goals as goal
 
 pub returns-in-Err-Flawed-Illegal-clause-damaged : goal.returns-in-Err-Flawed-Illegal-clause-damaged
@@ -14,7 +13,3 @@ returns-in-Err-Flawed-Illegal-clause-damaged c = λ place e.
       λ more. sym (on.goes_on more) ∙ ap (λ (b : List ℕ). resume held.section held.rows held.still (b ++ more)) (sym c.as_slice.ensures.value)
           ∙ arm.ensures.flaw arm.left (ap (λ fault. Err fault) (arm.field-0-is ∙ ap (λ flaw. Flawed flaw) arm.field-0-0-is)) more,
     )
-
-pub returns-in_ok-self-in-Ok-clause-reads : goal.returns-in_ok-self-in-Ok-clause-reads
-returns-in_ok-self-in-Ok-clause-reads c =
-    reads_further c.hold.new.self c.as_slice.result.now c.in-Ok.field-0.rest.now c.in_ok-hold.ensures.reads c.as_slice.ensures.value c.in_ok-self-in-Ok.ensures.ok refl refl c.in-Ok.ensures.goes_on
