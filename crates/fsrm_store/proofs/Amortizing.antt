@@ -17,6 +17,7 @@ use Rattle.fsrm_journal.proofs.Files.{records-append}
 use Rattle.fsrm_store.specs.Amortized.{bytes_left, bytes_since, entries_bytes, held_bytes, record_bytes, Amortized}
 use Rattle.fsrm_store.specs.Standing.{tail_of, StandsFor}
 use Rattle.fsrm_store.specs.declared.fault.StoreFault.{StoreFault}
+use Rattle.fsrm_store.specs.declared.fault.StoreFault.TheVariants.{DiskFault, NoMemory}
 use Rattle.fsrm_store.specs.declared.store.Store.{Store}
 
 -- ---- looks
@@ -110,6 +111,15 @@ since_tail journal none =
 pub since_none : (journal : Journal) → journal.held ≡ 0 → journal.end ≡ journal.image_end → bytes_since journal ≡ 0
 since_none journal none ends = omega (arith, since_tail journal none, ends)
 
--- a refusal leaves none for sure
-pub left_none : {T : Type 0} (result : Result T StoreFault) (fault : StoreFault) (store : Store) (n : ℕ) → result ≡ Err fault → bytes_left result store ≤ n
-left_none {T} result fault store n is = subst (λ (r : Result T StoreFault). bytes_left r store ≤ n) (sym is) (omega arith)
+-- a fault of the disk leaves none for sure
+pub left_none : {T : Type 0} (result : Result T StoreFault) (store : Store) (n : ℕ) → result ≡ Err DiskFault → bytes_left result store ≤ n
+left_none {T} result store n is = subst (λ (r : Result T StoreFault). bytes_left r store ≤ n) (sym is) (omega arith)
+
+-- the fault is handed on
+pub left_same : {T U : Type 0} (nodes looks steps bytes : ℕ) (result : Result T StoreFault) (told : Result U StoreFault) (store other : Store) → result ≡ Err DiskFault → told ≡ Err DiskFault
+    → Amortized nodes looks steps bytes (bytes_left result store) → Amortized nodes looks steps bytes (bytes_left told other)
+left_same {T} {U} nodes looks steps bytes result told store other was is a = record { images = a.images; few = a.few; paid = omega (arith, a.paid, left_none told other 0 is) }
+
+-- want of memory leaves all
+pub left_all : {T : Type 0} (result : Result T StoreFault) (store : Store) (n : ℕ) → result ≡ Err NoMemory → bytes_since store.journal ≤ n → bytes_left result store ≤ n
+left_all {T} result store n is few = subst (λ (r : Result T StoreFault). bytes_left r store ≤ n) (sym is) few

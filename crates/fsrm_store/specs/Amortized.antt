@@ -5,6 +5,7 @@ use Rattle.fsrm_journal.specs.declared.journal.Journal.{Journal}
 use Rattle.record_codec.specs.Entries.{entry as entry_format}
 use Rattle.fsrm_store.specs.Standing.{tail_of}
 use Rattle.fsrm_store.specs.declared.fault.StoreFault.{StoreFault}
+use Rattle.fsrm_store.specs.declared.fault.StoreFault.TheVariants.{DiskFault, NoMemory}
 use Rattle.fsrm_store.specs.declared.store.Store.{Store}
 
 -- the bytes of an entry's record: its gate, the length of its body, and the body
@@ -23,10 +24,12 @@ held_bytes (suc more) bytes = suc (length bytes)
 abbrev pub bytes_since : Journal → ℕ
 bytes_since journal = tail_of journal + held_bytes journal.held journal.bytes.items
 
--- what is left of them after a call. After a refusal that is at least nothing
+-- what is left of them after a call. After a fault of the disk that is at least nothing
 abbrev pub bytes_left : {T : Type 0} → Result T StoreFault → Store → ℕ
 bytes_left (Ok done) store = bytes_since store.journal
-bytes_left (Err fault) store = 0
+bytes_left (Err NoMemory) store = bytes_since store.journal
+bytes_left (Err DiskFault) store = 0
+bytes_left (Err other) store = 0
 
 -- Of records that had so many bytes, 1 MiB and more went for each image that was written, and so many bytes are left. The
 -- images took 2 looks a node, and nothing else took more looks than at first.

@@ -101,6 +101,7 @@ pub record StandsAlike (old new : Store) : Type 0 where
   pub at : (head : Head) (image : List ℕ) (bodies : List (List ℕ)) (parts : Parts) → StandsAt head image bodies parts old.journal → StandsAt head image bodies parts new.journal
   pub holding : (held : List (List ℕ)) → Holding held old.journal → Holding held new.journal
   pub end : new.journal.end ≡ old.journal.end
+  pub image_end : new.journal.image_end ≡ old.journal.image_end
   pub ruling : new.journal.ruling ≡ old.journal.ruling
   pub size : new.engine.size ≡ old.engine.size
   pub rows : new.engine.rows ≡ old.engine.rows

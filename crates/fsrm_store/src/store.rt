@@ -11,7 +11,7 @@ ghost use Rattle.fsrm_model.specs.meaning.Named.{IsNamed};
 ghost use Rattle.fsrm_model.specs.objects.Acts.{IsAct};
 ghost use Rattle.fsrm_model.specs.store.Lasting.{lasting};
 ghost use Rattle.fsrm_model.specs.store.Replays.{command_entries, is_finished_scan, is_scan_step, journal_entry};
-ghost use Rattle.fsrm_model.specs.store.Valid.{is_valid};
+ghost use Rattle.fsrm_model.specs.store.Valid.{is_valid, IsValid};
 ghost use Rattle.fsrm_model.specs.store.Valued.{is_command};
 ghost use Rattle.fsrm_outside.specs.Causes.{Rose};
 ghost use Rattle.fsrm_outside.specs.Moments.{EachImage};
@@ -54,7 +54,8 @@ impl Store {
 
     /// The machine, lent.
     pub fn engine(&self) -> &Engine
-        ensures { result.now ≡ self.now.engine }
+        ensures lent { result.now ≡ self.now.engine }
+        ensures valid { IsValid self.now.engine.size self.now.engine.rows }
     {
         &self.engine
     }
@@ -149,7 +150,7 @@ impl Store {
         ensures ready { OnOk result (IsReady D.reads self.new.journal disk.new) }
         ensures looks { steps.new ≤ steps.old + cost self.old.engine.rows command.now + 2 * length self.new.engine.rows.nodes }
         ensures amortized { (kept : Rows) → Standing D.reads D.disk_clock D.images kept self.old disk.old
-            → Amortized (length self.new.engine.rows.nodes) (steps.old + cost self.old.engine.rows command.now) steps.new (bytes_since self.old.journal + entries_bytes (command_entries self.old.engine.size self.old.engine.rows command.now)) (bytes_left result self.new) }
+            → Amortized (length (step self.old.engine.size self.old.engine.rows command.now).rows.nodes) (steps.old + cost self.old.engine.rows command.now) steps.new (bytes_since self.old.journal + entries_bytes (command_entries self.old.engine.size self.old.engine.rows command.now)) (bytes_left result self.new) }
         ensures by { D.by_disk disk.old disk.new }
         ensures later { D.disk_faults disk.old ≤ D.disk_faults disk.new }
         ensures failed { IsErrOf result DiskFault → Rose (D.disk_faults disk.old) (D.disk_faults disk.new) }
@@ -195,7 +196,7 @@ impl Store {
         ensures ready { OnOk result (IsReady D.reads self.new.journal disk.new) }
         ensures looks { steps.new ≤ steps.old + cost self.old.engine.rows (record { moment = moment; deed = File op.now }) + 2 * length self.new.engine.rows.nodes }
         ensures amortized { (kept : Rows) → Standing D.reads D.disk_clock D.images kept self.old disk.old
-            → Amortized (length self.new.engine.rows.nodes) (steps.old + cost self.old.engine.rows (record { moment = moment; deed = File op.now })) steps.new (bytes_since self.old.journal + entries_bytes (command_entries self.old.engine.size self.old.engine.rows (record { moment = moment; deed = File op.now }))) (bytes_left result self.new) }
+            → Amortized (length (step self.old.engine.size self.old.engine.rows (record { moment = moment; deed = File op.now })).rows.nodes) (steps.old + cost self.old.engine.rows (record { moment = moment; deed = File op.now })) steps.new (bytes_since self.old.journal + entries_bytes (command_entries self.old.engine.size self.old.engine.rows (record { moment = moment; deed = File op.now }))) (bytes_left result self.new) }
         ensures by { D.by_disk disk.old disk.new }
         ensures later { D.disk_faults disk.old ≤ D.disk_faults disk.new }
         ensures failed { IsErrOf result DiskFault → Rose (D.disk_faults disk.old) (D.disk_faults disk.new) }

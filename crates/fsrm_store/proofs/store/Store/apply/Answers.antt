@@ -2,7 +2,9 @@ use Rattle.std.proofs.Common.{refl, sym, ◌∙◌, ◌≡◌, true, length, sub
 use Rattle.fsrm_model.specs.declared.command.Outcome.{Outcome}
 use Rattle.fsrm_model.specs.store.Replays.{is_finished_scan}
 use Rattle.fsrm_store.proofs.KeptAs.{lasting_finished}
+use Rattle.std.specs.Prelude.{Err}
 use Rattle.std.proofs.lemmas.Result.{err_from_is_err_and}
+use Rattle.fsrm_model.specs.declared.row.Rows.{Rows}
 use Rattle.fsrm_model.specs.store.Lasting.{lasting}
 use Rattle.fsrm_model.specs.commands.Step.{step}
 use Rattle.fsrm_model.proofs.valid.ValidTests.{test_by_valid, valid_by_test}
@@ -10,7 +12,7 @@ use Rattle.fsrm_model.specs.meaning.Named.{IsNamed}
 use Rattle.fsrm_engine.specs.Machine.{Machine, Takes}
 use Rattle.record_codec.specs.Writing.{IsWritable}
 use Rattle.fsrm_store.proofs.KeepsLaws.{entry_writable}
-use Rattle.fsrm_store.proofs.Amortizing.{entry_bytes, left_none, renamed, unpaid}
+use Rattle.fsrm_store.proofs.Amortizing.{entry_bytes, left_all, left_same, renamed, unpaid}
 use Rattle.fsrm_store.proofs.Standings.{leads, leaves_as, none_held, settled, stands_on, stands_still}
 use Rattle.fsrm_store.proofs.store.Store.apply.Goals as goal
 
@@ -79,7 +81,7 @@ invariant_of-self-clause-valid g c = test_by_valid c.apply.new.self.size c.apply
 pub returns-in_err-answer-clause-amortized : goal.returns-in_err-answer-clause-amortized
 returns-in_err-answer-clause-amortized g c kept s =
     let p = err_from_is_err_and c.from_residual-in_err-answer.result c.from_residual-in_err-answer.ensures.1 in
-    unpaid _ _ _ _ _ (omega (arith, c.apply.ensures.looks)) (left_none _ p.0 _ _ p.1)
+    unpaid _ _ _ _ _ (omega (arith, c.apply.ensures.looks)) (left_all _ _ _ (p.1 ∙ ap Err p.2) (omega arith))
 
 pub returns-in_err-keep-clause-amortized : goal.returns-in_err-keep-clause-amortized
 returns-in_err-keep-clause-amortized g c kept s =
@@ -89,8 +91,9 @@ returns-in_err-keep-clause-amortized g c kept s =
     let l = leads old.size _ old.rows _ c.args.command.now _ c.requires.valid lasts (c.entry_of.ensures old.size old.rows (sym t.outcome_is)) t.size_is t.rows_are in
     let bytes = entry_bytes old.size old.rows c.args.command.now _ lasts (c.entry_of.ensures old.size old.rows (sym t.outcome_is)) in
     let p = err_from_is_err_and c.from_residual-in_err-keep.result c.from_residual-in_err-keep.ensures.1 in
-    let same = ap (λ (m : Machine). length m.rows.nodes) (sym c.keep.ensures.engine) in
-    rw p.1 (renamed _ _ _ _ _ _ _ _ same c.apply.ensures.looks (omega (arith, bytes)) (c.in_err-keep.ensures.amortized kept old.rows (stands_on _ s refl t.size_is refl refl) l))
+    let same = ap (λ (R : Rows). length R.nodes) t.rows_are in
+    let failed = c.in_err-keep.ensures.only in
+    left_same _ _ _ _ _ _ _ _ failed (p.1 ∙ ap Err p.2 ∙ failed) (renamed _ _ _ _ _ _ _ _ same c.apply.ensures.looks (omega (arith, bytes)) (c.in_err-keep.ensures.amortized kept old.rows (stands_on _ s refl t.size_is refl refl) l))
 
 pub returns-in_ok-keep-clause-amortized : goal.returns-in_ok-keep-clause-amortized
 returns-in_ok-keep-clause-amortized g c kept s =
@@ -99,7 +102,7 @@ returns-in_ok-keep-clause-amortized g c kept s =
     let lasts = sym t.lasting_is ∙ c.if-answer.true in
     let l = leads old.size _ old.rows _ c.args.command.now _ c.requires.valid lasts (c.entry_of.ensures old.size old.rows (sym t.outcome_is)) t.size_is t.rows_are in
     let bytes = entry_bytes old.size old.rows c.args.command.now _ lasts (c.entry_of.ensures old.size old.rows (sym t.outcome_is)) in
-    let same = ap (λ (m : Machine). length m.rows.nodes) (sym c.keep.ensures.engine) in
+    let same = ap (λ (R : Rows). length R.nodes) t.rows_are in
     renamed _ _ _ _ _ _ _ _ same c.apply.ensures.looks (omega (arith, bytes)) (c.in_ok-keep.ensures.amortized kept old.rows (stands_on _ s refl t.size_is refl refl) l)
 
 pub returns-else-answer-clause-amortized : goal.returns-else-answer-clause-amortized

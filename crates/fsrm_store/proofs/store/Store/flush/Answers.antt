@@ -1,7 +1,8 @@
-use Rattle.std.proofs.Common.{refl, sym, ◌∙◌, arith}
+use Rattle.std.proofs.Common.{refl, sym, ◌∙◌, ap, arith}
+use Rattle.std.specs.Prelude.{Err}
 use Rattle.std.proofs.lemmas.Result.{err_from_is_err_and}
 use Rattle.fsrm_model.specs.store.Lasting.{lasting}
-use Rattle.fsrm_store.proofs.Amortizing.{unpaid}
+use Rattle.fsrm_store.proofs.Amortizing.{left_same, unpaid}
 use Rattle.fsrm_store.proofs.Standings.{none_waits, stands_on, stands_still}
 use Rattle.fsrm_store.proofs.store.Store.flush.Goals as goal
 
@@ -26,7 +27,8 @@ returns-then-held-eq0-clause-amortized g c kept s = unpaid _ _ _ _ _ (omega arit
 pub returns-in_err-write-clause-amortized : goal.returns-in_err-write-clause-amortized
 returns-in_err-write-clause-amortized g c kept s =
     let p = err_from_is_err_and c.from_residual.result c.from_residual.ensures.1 in
-    rw p.1 (c.in_err-write.ensures.amortized kept (stands_on _ s refl refl refl refl))
+    let failed = c.in_err-write.ensures.only in
+    left_same _ _ _ _ _ _ _ _ failed (p.1 ∙ ap Err p.2 ∙ failed) (c.in_err-write.ensures.amortized kept (stands_on _ s refl refl refl refl))
 
 pub returns-clause-amortized : goal.returns-clause-amortized
 returns-clause-amortized g c kept s = c.in_ok-write.ensures.amortized kept (stands_on _ s refl refl refl refl)

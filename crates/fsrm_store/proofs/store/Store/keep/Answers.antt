@@ -1,4 +1,4 @@
-use Rattle.std.proofs.Common.{◌≡◌, ◌≤◌, Ok, List, ℕ, take, length, refl, sym, ◌∙◌, ap, subst, arith}
+use Rattle.std.proofs.Common.{◌≡◌, ◌≤◌, Ok, Err, List, ℕ, take, length, refl, sym, ◌∙◌, ap, subst, arith}
 use Rattle.std.proofs.lemmas.Result.{err_from_is_err_and}
 use Rattle.fsrm_model.specs.store.Lasting.{lasting}
 use Rattle.record_codec.specs.Entries.{decoded, entry}
@@ -6,7 +6,7 @@ use Rattle.record_codec.specs.Writing.{lent}
 use Rattle.record_codec.proofs.EntryLaws.{decoded_again}
 use Rattle.record_codec.proofs.RecordBodies.{some_bytes}
 use Rattle.fsrm_store.specs.Amortized.{bytes_since}
-use Rattle.fsrm_store.proofs.Amortizing.{held_more, later, left_none, unpaid}
+use Rattle.fsrm_store.proofs.Amortizing.{held_more, later, left_same, unpaid}
 use Rattle.fsrm_store.proofs.Standings.{entry_held, settled, settles, stands_on, stands_still}
 use Rattle.fsrm_store.proofs.store.Store.keep.Goals as goal
 
@@ -53,7 +53,8 @@ returns-in_err-write-clause-amortized g c kept R s l =
     let more : bytes_since c.hold.new.self ≡ bytes_since c.args.self.now.journal + (5 + length body) = held_more c.args.self.now.journal c.hold.new.self s.held body s.holding (c.hold.ensures.holding s.held s.holding) c.hold.ensures.end c.hold.ensures.image in
     let stands = entry_held _ body e c.args.self.now.engine.rows s l told (c.hold.ensures.store s.head s.bytes s.bodies s.stands.parts s.stands.at) (c.hold.ensures.holding s.held s.holding) refl refl refl in
     let p = err_from_is_err_and c.from_residual.result c.from_residual.ensures.1 in
-    rw p.1 (later _ _ _ _ _ _ _ (omega arith) (omega (arith, more, ap (λ (l : List ℕ). length l) is)) (c.in_err-write.ensures.amortized kept stands))
+    let failed = c.in_err-write.ensures.only in
+    left_same _ _ _ _ _ _ _ _ failed (p.1 ∙ ap Err p.2 ∙ failed) (later _ _ _ _ _ _ _ (omega arith) (omega (arith, more, ap (λ (l : List ℕ). length l) is)) (c.in_err-write.ensures.amortized kept stands))
 
 -- the group is written
 pub returns-clause-leaves : goal.returns-clause-leaves

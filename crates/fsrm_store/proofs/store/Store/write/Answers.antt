@@ -1,9 +1,11 @@
-use Rattle.std.proofs.Common.{◌≡◌, ◌≤◌, refl, sym, ◌∙◌, arith}
+use Rattle.std.proofs.Common.{◌≡◌, ◌≤◌, refl, sym, ◌∙◌, ap, arith}
+use Rattle.std.specs.Prelude.{Err}
 use Rattle.std.proofs.lemmas.Result.{err_from_is_err_and}
 use Rattle.fsrm_model.specs.store.Lasting.{lasting}
 use Rattle.fsrm_outside.proofs.Stages.{DiskLaws, joined}
 use Rattle.fsrm_store.specs.Amortized.{bytes_since}
 use Rattle.fsrm_store.proofs.Amortizing.{left_none, paid_once, passed, since_flushed, since_none, since_tail, unpaid}
+use Rattle.fsrm_store.proofs.QuietCalls.{journal_disk}
 use Rattle.fsrm_store.proofs.Standings.{flush_leaves, flushed, later_leaves}
 use Rattle.fsrm_store.proofs.store.Store.write.Goals as goal
 
@@ -47,7 +49,8 @@ returns-else-tail-max-clause-store g c kept s =
 pub returns-in_err-flush-clause-amortized : goal.returns-in_err-flush-clause-amortized
 returns-in_err-flush-clause-amortized g c kept s =
     let p = err_from_is_err_and c.from_residual-in_err-flush.result c.from_residual-in_err-flush.ensures.1 in
-    unpaid _ _ _ _ _ (omega arith) (left_none _ p.0 _ _ p.1)
+    let told = p.1 ∙ ap Err (journal_disk c.in_err-flush.field-0.0 p.0 p.2 c.in_err-flush.ensures.only) in
+    unpaid _ _ _ _ _ (omega arith) (left_none _ _ _ told)
 
 pub returns-in_err-change-clause-amortized : goal.returns-in_err-change-clause-amortized
 returns-in_err-change-clause-amortized g c kept s =
@@ -55,7 +58,8 @@ returns-in_err-change-clause-amortized g c kept s =
     let mid : bytes_since c.flush.new.self ≡ bytes_since c.args.self.now.journal = since_flushed _ _ s (c.in_ok-flush.ensures.store s.head s.bytes s.bodies s.held s.stands s.holding) c.in_ok-flush.ensures.none in
     let tail = since_tail c.flush.new.self c.in_ok-flush.ensures.none in
     let long = passed c.tail.result c.args.self.now.image c.if-tail-max.true in
-    rw p.1 (paid_once _ _ _ _ _ (omega (arith, c.change.ensures.looks)) (omega (arith, mid, tail, long, c.tail.ensures.between)))
+    let none = left_none c.from_residual-in_err-change.result c.change.new.self 0 (p.1 ∙ ap Err p.2 ∙ c.in_err-change.ensures.only) in
+    paid_once _ _ _ _ _ (omega (arith, c.change.ensures.looks)) (omega (arith, mid, tail, long, none, c.tail.ensures.between))
 
 pub returns-in_ok-change-clause-amortized : goal.returns-in_ok-change-clause-amortized
 returns-in_ok-change-clause-amortized g c kept s =
