@@ -1,7 +1,6 @@
 -- Images are paid for by records.
-use Rattle.std.proofs.Common.{◌≡◌, ℕ, zero, suc, true, ◌+◌, ◌*◌, ◌≤◌, ◌<◌, List, [], ◌∷◌, ◌++◌, length, length-append, arith, refl, sym, ◌∙◌, ap, subst}
+use Rattle.std.proofs.Common.{◌≡◌, ℕ, suc, true, ◌+◌, ◌*◌, ◌≤◌, ◌<◌, List, [], ◌∷◌, ◌++◌, length, length-append, arith, sym, ◌∙◌, ap, subst}
 use Rattle.std.specs.Prelude.{◌/◌, ◌-◌, max, Err, Option, Result, if◌then◌else◌}
-use Rattle.std.proofs.lemmas.List.{append-nil}
 use Rattle.std.proofs.lemmas.Nat.{le-div, mul-le}
 use Rattle.fsrm_model.specs.commands.Step.{step}
 use Rattle.fsrm_model.specs.declared.command.Command.{Command}
@@ -10,7 +9,7 @@ use Rattle.fsrm_model.specs.declared.row.Capacity.{Capacity}
 use Rattle.fsrm_model.specs.declared.row.Rows.{Rows}
 use Rattle.fsrm_model.specs.store.Replays.{command_entries, journal_entry}
 use Rattle.fsrm_outside.specs.Parts.{Parts}
-use Rattle.fsrm_journal.specs.Records.{batch, records}
+use Rattle.fsrm_journal.specs.Records.{records}
 use Rattle.fsrm_journal.specs.Stores.{Holding, Stands}
 use Rattle.fsrm_journal.specs.declared.journal.Journal.{Journal}
 use Rattle.fsrm_journal.proofs.Files.{records-append}
@@ -61,8 +60,8 @@ entry_bytes K R c entry lasts is =
     one ∙ alone ∙ ap record_bytes (sym is)
 
 -- a tail that is too long has more than 1 MiB
-pub passed : (tail image : ℕ) → max image 1048576 < tail → 1048576 ≤ tail
-passed tail image long = grind (arith, long)
+pub passed : (tail image most : ℕ) → most ≡ max image 1048576 → most < tail → 1048576 ≤ tail
+passed tail image most is long = grind (arith, is, long)
 
 held_are : (held : List (List ℕ)) (journal : Journal) → Holding held journal → held_bytes journal.held journal.bytes.items ≡ length (records held)
 held_are [] journal h = ap (λ (n : ℕ). held_bytes n journal.bytes.items) (sym h.count)

@@ -1,6 +1,6 @@
 -- Making a store.
-use Rattle.std.proofs.Common.{◌≡◌, ◌⊎◌, inl, inr, ℕ, ◌+◌, ◌≤◌, ◌<◌, Bool, true, false, Some, List, [], ◌∷◌, ◌++◌, length, length-append, take, refl, sym, ◌∙◌, ap, subst, arith}
-use Rattle.std.specs.Prelude.{◌&&◌, ◌||◌, ◌^◌, nat_eq, nat_le, min, Option, Result, Err}
+use Rattle.std.proofs.Common.{◌≡◌, ◌⊎◌, inl, inr, ℕ, ◌≤◌, ◌<◌, true, false, List, [], ◌∷◌, ◌++◌, length, length-append, take, refl, sym, ◌∙◌, ap, subst, arith}
+use Rattle.std.specs.Prelude.{◌&&◌, ◌^◌, nat_eq, nat_le, min, Option, Err}
 use Rattle.std.proofs.lemmas.List.{append-nil, take_all}
 use Rattle.std.proofs.lemmas.Bool.{cases_lt}
 use Rattle.fsrm_base.proofs.TestLaws.{both, le_is, or_later}
@@ -9,14 +9,12 @@ use Rattle.fsrm_model.specs.nodes.Fresh.{new_rows}
 use Rattle.fsrm_model.specs.store.Capacities.{is_capacity, is_cluster as is_cluster_size}
 use Rattle.fsrm_model.specs.values.Limits.{most_nodes, most_names}
 use Rattle.fsrm_outside.specs.Changes.{Same, Through}
-use Rattle.fsrm_outside.specs.Moments.{EachNow}
 use Rattle.fsrm_outside.specs.Parts.{Parts}
 use Rattle.fsrm_outside.specs.declared.traits.Part.{Part}
 use Rattle.fsrm_outside.specs.declared.traits.Part.TheVariants.{Zero}
 use Rattle.fsrm_outside.proofs.Stages.{some_is}
 use Rattle.fsrm_journal.specs.Formatted.{Formats, IsFormatted, NoneOrFresh}
 use Rattle.fsrm_journal.specs.Halves.{Certain}
-use Rattle.fsrm_journal.specs.Heads.{is_cluster}
 use Rattle.fsrm_journal.specs.Legal.{IsLegal}
 use Rattle.fsrm_journal.specs.Opened.{judged_parts}
 use Rattle.fsrm_journal.specs.Stores.{HoldsStore}

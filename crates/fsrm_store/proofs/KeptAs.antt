@@ -1,5 +1,5 @@
 -- Which entry a command that lasts is kept as.
-use Rattle.std.proofs.Common.{◌≡◌, ℕ, ◌==◌, Bool, true, false, List, [], ◌∷◌, None, length, nat_lt, refl, sym, ap}
+use Rattle.std.proofs.Common.{◌≡◌, ℕ, ◌==◌, Bool, true, false, [], ◌∷◌, None, length, nat_lt, sym}
 use Rattle.std.specs.Prelude.{if◌then◌else◌}
 use Rattle.fsrm_model.specs.commands.Check.{◌when◌, first}
 use Rattle.fsrm_model.specs.commands.ScanWork.{step_work}

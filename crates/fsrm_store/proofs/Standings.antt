@@ -1,5 +1,5 @@
 -- A store stands beside its disk from call to call.
-use Rattle.std.proofs.Common.{◌≡◌, ◌⊎◌, inl, inr, ℕ, zero, suc, ◌+◌, ◌≤◌, true, false, None, Some, List, [], ◌∷◌, ◌++◌, length, take, refl, sym, ◌∙◌, ap, subst}
+use Rattle.std.proofs.Common.{◌≡◌, inl, inr, ℕ, zero, suc, ◌≤◌, true, false, List, [], ◌∷◌, ◌++◌, length, take, refl, sym, ◌∙◌, ap, subst}
 use Rattle.std.specs.Prelude.{Ok, Option, if◌then◌else◌}
 use Rattle.std.proofs.lemmas.List.{append-nil, take-append-le, take-take}
 use Rattle.fsrm_model.specs.commands.Step.{step}
@@ -12,7 +12,7 @@ use Rattle.fsrm_model.specs.store.Replays.{command_entries, journal_entry}
 use Rattle.fsrm_model.specs.store.Valued.{is_command}
 use Rattle.fsrm_outside.specs.Kept.{KeepsDisk}
 use Rattle.fsrm_outside.specs.Moments.{EachImage, EachNow}
-use Rattle.fsrm_outside.specs.Parts.{Parts, part_of, other}
+use Rattle.fsrm_outside.specs.Parts.{Parts}
 use Rattle.fsrm_outside.proofs.Stages.{started, weaker}
 use Rattle.fsrm_journal.specs.Stores.{Holding, HoldsWithOrWithout, Stands, StandsAt}
 use Rattle.fsrm_journal.specs.declared.journal.Journal.{Journal}
@@ -113,9 +113,9 @@ stands_beside keeps s = record {
   version = s.version;
 }
 
-pub ready_beside : {D : Type 0} {reads : D → Option Parts} {clock : D → Option ℕ} {images : D → ℕ → Parts → Type 0} {faults : D → ℕ} {journal : Journal} {old new : D} → KeepsDisk reads clock images faults old new
+pub ready_beside : {D : Type 0} {reads : D → Option Parts} {clock : D → Option ℕ} {images : D → ℕ → Parts → Type 0} {faults : D → ℕ} {old new : D} (journal : Journal) → KeepsDisk reads clock images faults old new
     → IsReady reads journal old → IsReady reads journal new
-ready_beside keeps ready parts told = ready parts (sym keeps.same_reads ∙ told)
+ready_beside journal keeps ready parts told = ready parts (sym keeps.same_reads ∙ told)
 
 pub flushed : {D : Type 0} {reads : D → Option Parts} {clock : D → Option ℕ} {images : D → ℕ → Parts → Type 0} {kept R : Rows} {store : Store} {disk : D} (after : Store) (new : D) (s : StandsFor reads clock images kept R store disk)
     → Stands reads clock images s.head s.bytes (s.bodies ++ s.held) after.journal new → Holding [] after.journal → after.engine.size ≡ store.engine.size → after.image ≡ store.image → after.is_old ≡ store.is_old → StandsFor reads clock images (lasting R) R after new

@@ -18,7 +18,7 @@ pub returns-clause-others : goal.returns-clause-others
 returns-clause-others g c kept store old new keeps s = stands_beside keeps s
 
 pub returns-clause-ready : goal.returns-clause-ready
-returns-clause-ready g c journal old new keeps ready = ready_beside keeps ready
+returns-clause-ready g c journal old new keeps ready = ready_beside journal keeps ready
 
 pub returns-clause-settled : goal.returns-clause-settled
 returns-clause-settled g c kept store disk s none = kept_settled s none

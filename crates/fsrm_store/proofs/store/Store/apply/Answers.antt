@@ -5,13 +5,13 @@ use Rattle.fsrm_store.proofs.KeptAs.{lasting_finished}
 use Rattle.std.specs.Prelude.{Err}
 use Rattle.std.proofs.lemmas.Result.{err_from_is_err_and}
 use Rattle.fsrm_model.specs.declared.row.Rows.{Rows}
-use Rattle.fsrm_model.specs.store.Lasting.{lasting}
 use Rattle.fsrm_model.specs.commands.Step.{step}
 use Rattle.fsrm_model.proofs.valid.ValidTests.{test_by_valid, valid_by_test}
 use Rattle.fsrm_model.specs.meaning.Named.{IsNamed}
 use Rattle.fsrm_engine.specs.Machine.{Machine, Takes}
 use Rattle.record_codec.specs.Writing.{IsWritable}
 use Rattle.fsrm_store.proofs.KeepsLaws.{entry_writable}
+use Rattle.fsrm_store.specs.declared.fault.StoreFault.TheVariants.{DiskFault}
 use Rattle.fsrm_store.proofs.Amortizing.{entry_bytes, left_all, left_same, renamed, unpaid}
 use Rattle.fsrm_store.proofs.Standings.{leads, leaves_as, none_held, settled, stands_on, stands_still}
 use Rattle.fsrm_store.proofs.store.Store.apply.Goals as goal
@@ -80,7 +80,7 @@ invariant_of-self-clause-valid g c = test_by_valid c.apply.new.self.size c.apply
 -- ---- looks
 pub returns-in_err-answer-clause-amortized : goal.returns-in_err-answer-clause-amortized
 returns-in_err-answer-clause-amortized g c kept s =
-    let p = err_from_is_err_and c.from_residual-in_err-answer.result c.from_residual-in_err-answer.ensures.1 in
+    let p = err_from_is_err_and c.from_residual.result c.from_residual.ensures.1 in
     unpaid _ _ _ _ _ (omega (arith, c.apply.ensures.looks)) (left_all _ _ _ (p.1 ∙ ap Err p.2) (omega arith))
 
 pub returns-in_err-keep-clause-amortized : goal.returns-in_err-keep-clause-amortized
@@ -92,8 +92,8 @@ returns-in_err-keep-clause-amortized g c kept s =
     let bytes = entry_bytes old.size old.rows c.args.command.now _ lasts (c.entry_of.ensures old.size old.rows (sym t.outcome_is)) in
     let p = err_from_is_err_and c.from_residual-in_err-keep.result c.from_residual-in_err-keep.ensures.1 in
     let same = ap (λ (R : Rows). length R.nodes) t.rows_are in
-    let failed = c.in_err-keep.ensures.only in
-    left_same _ _ _ _ _ _ _ _ failed (p.1 ∙ ap Err p.2 ∙ failed) (renamed _ _ _ _ _ _ _ _ same c.apply.ensures.looks (omega (arith, bytes)) (c.in_err-keep.ensures.amortized kept old.rows (stands_on _ s refl t.size_is refl refl) l))
+    let failed : c.in_err-keep.field-0.0 ≡ DiskFault = cc c.in_err-keep.ensures.only in
+    left_same _ _ _ _ _ _ _ _ c.in_err-keep.ensures.only (p.1 ∙ ap Err (p.2 ∙ failed)) (renamed _ _ _ _ _ _ _ _ same c.apply.ensures.looks (omega (arith, bytes)) (c.in_err-keep.ensures.amortized kept old.rows (stands_on _ s refl t.size_is refl refl) l))
 
 pub returns-in_ok-keep-clause-amortized : goal.returns-in_ok-keep-clause-amortized
 returns-in_ok-keep-clause-amortized g c kept s =

@@ -1,4 +1,4 @@
-use Rattle.std.proofs.Common.{◌≡◌, ◌≤◌, refl, sym, ◌∙◌, ap, arith}
+use Rattle.std.proofs.Common.{◌≡◌, refl, ◌∙◌, ap, arith}
 use Rattle.std.specs.Prelude.{Err}
 use Rattle.std.proofs.lemmas.Result.{err_from_is_err_and}
 use Rattle.fsrm_model.specs.store.Lasting.{lasting}
@@ -48,7 +48,7 @@ returns-else-tail-max-clause-store g c kept s =
 -- ---- looks
 pub returns-in_err-flush-clause-amortized : goal.returns-in_err-flush-clause-amortized
 returns-in_err-flush-clause-amortized g c kept s =
-    let p = err_from_is_err_and c.from_residual-in_err-flush.result c.from_residual-in_err-flush.ensures.1 in
+    let p = err_from_is_err_and c.from_residual.result c.from_residual.ensures.1 in
     let told = p.1 ∙ ap Err (journal_disk c.in_err-flush.field-0.0 p.0 p.2 c.in_err-flush.ensures.only) in
     unpaid _ _ _ _ _ (omega arith) (left_none _ _ _ told)
 
@@ -57,7 +57,7 @@ returns-in_err-change-clause-amortized g c kept s =
     let p = err_from_is_err_and c.from_residual-in_err-change.result c.from_residual-in_err-change.ensures.1 in
     let mid : bytes_since c.flush.new.self ≡ bytes_since c.args.self.now.journal = since_flushed _ _ s (c.in_ok-flush.ensures.store s.head s.bytes s.bodies s.held s.stands s.holding) c.in_ok-flush.ensures.none in
     let tail = since_tail c.flush.new.self c.in_ok-flush.ensures.none in
-    let long = passed c.tail.result c.args.self.now.image c.if-tail-max.true in
+    let long = passed c.tail.result c.args.self.now.image c.max.result c.max.ensures c.if-tail-max.true in
     let none = left_none c.from_residual-in_err-change.result c.change.new.self 0 (p.1 ∙ ap Err p.2 ∙ c.in_err-change.ensures.only) in
     paid_once _ _ _ _ _ (omega (arith, c.change.ensures.looks)) (omega (arith, mid, tail, long, none, c.tail.ensures.between))
 
@@ -65,7 +65,7 @@ pub returns-in_ok-change-clause-amortized : goal.returns-in_ok-change-clause-amo
 returns-in_ok-change-clause-amortized g c kept s =
     let mid : bytes_since c.flush.new.self ≡ bytes_since c.args.self.now.journal = since_flushed _ _ s (c.in_ok-flush.ensures.store s.head s.bytes s.bodies s.held s.stands s.holding) c.in_ok-flush.ensures.none in
     let tail = since_tail c.flush.new.self c.in_ok-flush.ensures.none in
-    let long = passed c.tail.result c.args.self.now.image c.if-tail-max.true in
+    let long = passed c.tail.result c.args.self.now.image c.max.result c.max.ensures c.if-tail-max.true in
     let left = since_none c.change.new.self.journal c.change.ensures.none c.in_ok-change.ensures.empty in
     paid_once _ _ _ _ _ (omega (arith, c.change.ensures.looks)) (omega (arith, mid, tail, long, left, c.tail.ensures.between))
 
