@@ -6,7 +6,6 @@ ghost use Rattle.fsrm_model.specs.nodes.Fresh.{new_rows as fresh_rows};
 ghost use Rattle.fsrm_model.specs.store.Capacities.{is_capacity};
 ghost use Rattle.fsrm_outside.specs.Causes.{Rose};
 ghost use Rattle.fsrm_outside.specs.Changes.{Same, Through};
-ghost use Rattle.fsrm_outside.specs.Moments.{EachNow};
 ghost use Rattle.fsrm_journal.specs.Formatted.{has_store};
 ghost use Rattle.image_codec.specs.NewImage.{new_image as fresh_image};
 ghost use Rattle.fsrm_store.specs.Init.{IsInit, IsNew, MakesStore};

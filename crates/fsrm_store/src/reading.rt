@@ -1,6 +1,6 @@
 //! What the half that rules tells: its image, and the entries after it.
 
-ghost use Rattle.std.specs.Prelude.{◌≡◌, ◌≢◌, ◌⊎◌, ◌≤◌, ◌<◌, ◌+◌, ◌-◌, ◌^◌, ℕ, List, [], ◌∷◌, ◌++◌, length, true, None, Some, Ok, Err, IfErr, IfOk, IfSome, OnOk};
+ghost use Rattle.std.specs.Prelude.{◌≡◌, ◌≢◌, ◌≤◌, ◌<◌, ◌+◌, ◌-◌, ◌^◌, ℕ, List, [], ◌∷◌, ◌++◌, length, true, None, Some, Ok, Err, IfErr, IfOk, IfSome};
 ghost use Rattle.fsrm_model.specs.declared.command.Entry.{Entry as EntryValue};
 ghost use Rattle.fsrm_model.specs.declared.row.Rows.{Rows as RowsValue};
 ghost use Rattle.fsrm_model.specs.store.Replays.{is_valid_entry};

@@ -1,6 +1,6 @@
 //! A store that is opened: the image of the half that rules, and the entries after it done once more.
 
-ghost use Rattle.std.specs.Prelude.{◌≡◌, ◌≢◌, ◌⊎◌, ◌+◌, ◌*◌, ◌≤◌, ◌<◌, ℕ, [], length, true, false, Some, Ok, Err, IfErr, IfOk, IsErrOf, OnOk};
+ghost use Rattle.std.specs.Prelude.{◌≡◌, ◌≢◌, ◌⊎◌, ◌+◌, ◌*◌, ◌≤◌, ◌<◌, [], length, true, false, Some, Ok, Err, IfErr, IfOk, IsErrOf};
 ghost use Rattle.std.specs.Option.{ForSome};
 ghost use Rattle.fsrm_model.specs.store.Capacities.{is_capacity};
 ghost use Rattle.fsrm_model.specs.store.Valid.{is_valid, IsValid};

@@ -1,6 +1,6 @@
 //! Entries that are done once more.
 
-ghost use Rattle.std.specs.Prelude.{◌≡◌, ◌≢◌, ◌+◌, ◌≤◌, ℕ, List, [], length, true, Some, Err, IfErr, OnOk};
+ghost use Rattle.std.specs.Prelude.{◌≡◌, ◌≢◌, ◌+◌, ◌≤◌, [], length, true, Some, Err, IfErr, OnOk};
 ghost use Rattle.fsrm_model.specs.declared.row.Rows.{Rows as RowsValue};
 ghost use Rattle.fsrm_model.specs.store.Lasting.{lasting};
 ghost use Rattle.fsrm_model.specs.store.Replays.{after_entry, is_valid_entry};

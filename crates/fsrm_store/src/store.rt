@@ -1,6 +1,6 @@
 //! The store.
 
-ghost use Rattle.std.specs.Prelude.{◌≡◌, ◌⊎◌, ◌+◌, ◌*◌, ◌≤◌, ◌<◌, ℕ, List, [], ◌∷◌, None, true, false, length, Err, Option, IfOk, IfSome, IsErrOf, MatchOption, OnErr, OnOk};
+ghost use Rattle.std.specs.Prelude.{◌≡◌, ◌⊎◌, ◌+◌, ◌*◌, ◌≤◌, ◌<◌, ℕ, [], ◌∷◌, None, true, false, length, Err, Option, IfOk, IfSome, IsErrOf, MatchOption, OnErr, OnOk};
 ghost use Rattle.fsrm_model.specs.commands.Cost.{cost};
 ghost use Rattle.fsrm_model.specs.commands.Step.{step};
 ghost use Rattle.fsrm_model.specs.declared.command.Deed.TheVariants.{File};
