@@ -1,6 +1,6 @@
 //! Images of a store: their bytes, and where damage is told, both worked out by hand.
 
-ghost use Rattle.std.specs.Prelude.{◌≡◌, true};
+ghost use Rattle.std.specs.Prelude.{◌≡◌, true, IfOk};
 ghost use Rattle.std.specs.List.{list_all};
 ghost use Rattle.image_codec.specs.Pieces.{pieces};
 ghost use Rattle.image_codec.specs.PiecesLeft.{piece_fits};

@@ -1,7 +1,7 @@
 //! What no clause says of the crates that keep a store: that each public call succeeds with ample memory, that the bytes
-//! are those of the formats (`docs/FORMATS.md`), and that a store which is stopped, damaged or filled is found as it has
-//! to be. The expected values were worked out by hand. The tests of all other crates stand in `vectors`, which says how a
-//! test is kept short to prove.
+//! are those of the formats (`docs/FORMATS.md`), and that a journal which is stopped is found as it has to be. The
+//! expected values were worked out by hand. The tests of all other crates stand in `vectors`, which says how a test is
+//! kept short to prove.
 #![tactic(auto)]
 
 #[cfg(test)]
@@ -14,15 +14,3 @@ mod fields;
 mod images;
 #[cfg(test)]
 mod journals;
-#[cfg(test)]
-mod store_bytes;
-#[cfg(test)]
-mod store_calls;
-#[cfg(test)]
-mod store_groups;
-#[cfg(test)]
-mod store_halves;
-#[cfg(test)]
-mod store_stops;
-#[cfg(test)]
-mod stores;

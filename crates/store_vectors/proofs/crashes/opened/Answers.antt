@@ -2,7 +2,7 @@ use Rattle.std.proofs.Common.{sym, ◌∙◌, ap, subst, length, arith}
 use Rattle.fsrm_outside.specs.Parts.{part_of, other}
 use Rattle.fsrm_outside.specs.declared.traits.Part.{Part}
 use Rattle.fsrm_journal.specs.Sight.{Sees}
-use Rattle.vectors.proofs.crashes.opened.Goals as goal
+use Rattle.store_vectors.proofs.crashes.opened.Goals as goal
 
 pub returns-clause-place : goal.returns-clause-place
 returns-clause-place g c x told =

@@ -1,5 +1,5 @@
 use Rattle.image_codec.specs.ImageOut.{CanWrite}
-use Rattle.vectors.proofs.images.written.Given as goal
+use Rattle.store_vectors.proofs.images.written.Given as goal
 
 -- the writer is ready
 abbrev pub invariant-loop : goal.invariant-loop

@@ -1,6 +1,0 @@
-use Rattle.store_vectors.specs.Open.{IsOpen}
-use Rattle.store_vectors.proofs.store_stops.take_lines.Given as goal
-
--- the store takes commands
-abbrev pub invariant-loop : goal.invariant-loop
-invariant-loop g l = IsOpen g.D.Disk.reads l.store l.disk
