@@ -31,10 +31,10 @@ pub struct NodeRow {
     pub parent: u32,
     pub name: Text,
     pub folder: bool,
-    /// Bytes of a file, up to 17,592,185,978,880. A folder has 0.
-    pub length: u64,
     /// At least 1.
     pub owner: u32,
+    /// Bytes of a file, up to 17,592,185,978,880. A folder has 0.
+    pub length: u64,
     pub created: u64,
     pub modified: u64,
     pub accessed: u64,
