@@ -1,0 +1,48 @@
+use Rattle.std.proofs.Common.{[], ◌∷◌, refl, sym, ◌∙◌, ap}
+use Rattle.std.specs.Prelude.{Err}
+use Rattle.fsrm_store.specs.declared.fault.StoreFault.{StoreFault}
+use Rattle.fsrm_session.specs.Turns.{command_turn, told}
+use Rattle.fsrm_session.specs.declared.session.Session.{Session}
+use Rattle.fsrm_session.proofs.Entering.{entered_result, full_stops, only_disk, said_told, store_enters, store_stops}
+use Rattle.fsrm_session.proofs.Handing.{calm_step}
+use Rattle.fsrm_session.proofs.Object.{laws_of}
+use Rattle.fsrm_session.proofs.session.Session.enter.Goals as goal
+
+pub tell-requires-clause-calm : goal.tell-requires-clause-calm
+tell-requires-clause-calm g c still =
+    let e = c.args.self.now.store.engine in
+    let took = c.in-Ok.ensures.ok in
+    took.acts_are ∙ calm_step e.size e.rows c.args.command.now (sym took.lasting_is ∙ still)
+
+pub returns-in-Ok-clause-runs : goal.returns-in-Ok-clause-runs
+returns-in-Ok-clause-runs g c =
+    let laws = laws_of g.met.O.Sink g.met.O.Disk g.met.O.Outside in
+    let was = c.args.self.now in
+    let e = was.store.engine in
+    let next : Session = record { store = c.apply.new.self; kept = was.kept; alloc = was.alloc } in
+    let now = next.store.engine in
+    let outcome = c.in-Ok.answer.outcome in
+    let took = c.in-Ok.ensures.ok in
+    let command = c.args.command.now in
+    let number = c.args.number in
+    entered_result c.tell.result (command_turn e.size number command) (told now.size now.rows now.waiting number outcome) was next c.tell.new.self c.args.outside.now c.apply.new.disk c.tell.new.outside laws
+    (said_told e.size now.size e.rows now.rows now.waiting outcome number command took.size_is took.rows_are took.acts_are took.outcome_is)
+    (store_enters number command was next c.args.outside.now c.apply.new.disk laws c.apply.ensures.by refl took.size_is took.rows_are (record { leaves = c.apply.ensures.leaves }) (record { stands = c.in-Ok.ensures.store }))
+    c.tell.ensures.runs
+
+pub returns-in-NoMemory-clause-runs : goal.returns-in-NoMemory-clause-runs
+returns-in-NoMemory-clause-runs g c =
+    let was = c.args.self.now in
+    full_stops (command_turn was.store.engine.size c.args.number c.args.command.now ∷ []) was (record { store = c.apply.new.self; kept = was.kept; alloc = was.alloc }) c.args.outside.now c.apply.new.disk (laws_of g.met.O.Sink g.met.O.Disk g.met.O.Outside)
+    (c.apply.ensures.full (c.in-Err.is ∙ ap (λ (f : StoreFault). Err f) c.in-NoMemory.is)) refl
+
+pub returns-in_default-clause-runs : goal.returns-in_default-clause-runs
+returns-in_default-clause-runs g c =
+    let was = c.args.self.now in
+    store_stops c.args.number c.args.command.now was (record { store = c.apply.new.self; kept = was.kept; alloc = was.alloc }) c.args.outside.now c.apply.new.disk (laws_of g.met.O.Sink g.met.O.Disk g.met.O.Outside) c.apply.ensures.by
+    (record { leaves = c.apply.ensures.leaves })
+
+pub returns-in_default-clause-counts : goal.returns-in_default-clause-counts
+returns-in_default-clause-counts g c =
+    let is = only_disk _ c.in-Err.fault refl c.in-Err.ensures.only c.in_default.not-NoMemory in
+    ((g.met.O.Outside.disk_keeps_sink c.args.outside.now c.apply.new.disk c.apply.ensures.by).same_faults, record { later = c.apply.ensures.later; rose = c.in-Err.ensures.failed is })

@@ -1,0 +1,72 @@
+-- What a run does, turn by turn, and what is shown of it.
+use Rattle.std.specs.Prelude.{◌≡◌, ℕ, ◌+◌, List, [], ◌∷◌, ◌++◌, Ok, Err, Some}
+use Rattle.fsrm_model.specs.declared.command.Act.{Act}
+use Rattle.fsrm_model.specs.declared.command.Command.{Command}
+use Rattle.fsrm_model.specs.declared.command.Outcome.{Outcome}
+use Rattle.fsrm_model.specs.declared.command.Refusal.{Refusal}
+use Rattle.fsrm_model.specs.declared.row.Capacity.{Capacity}
+use Rattle.fsrm_model.specs.declared.row.Rows.{Rows}
+use Rattle.fsrm_model.specs.lines.Script.{lines, replied, replied_to}
+use Rattle.fsrm_model.specs.texts.ActText.{act_lines}
+use Rattle.fsrm_model.specs.texts.Text.{reply}
+
+-- What a turn shows, and the rows after it, each by the rows before it.
+pub record Turn : Type 0 where
+  pub said : Rows → List ℕ
+  pub after : Rows → Rows
+
+-- the text of turns, one after the other, from these rows on
+abbrev pub text_of : Rows → List Turn → List ℕ
+text_of R [] = []
+text_of R (turn ∷ turns) = turn.said R ++ text_of (turn.after R) turns
+
+-- the rows after them
+abbrev pub rows_after : Rows → List Turn → Rows
+rows_after R [] = R
+rows_after R (turn ∷ turns) = rows_after (turn.after R) turns
+
+-- ---- turns
+-- a command, to which the reply is that to a line of this number
+abbrev pub command_turn : Capacity → ℕ → Command → Turn
+command_turn K number c = record {
+  said = λ R. (replied_to K R number (Some (Ok c))).text;
+  after = λ R. (replied_to K R number (Some (Ok c))).rows;
+}
+
+-- a line that is refused as it is read
+abbrev pub refused_turn : Capacity → ℕ → Refusal → Turn
+refused_turn K number refusal = record {
+  said = λ R. (replied_to K R number (Some (Err refusal))).text;
+  after = λ R. (replied_to K R number (Some (Err refusal))).rows;
+}
+
+-- a line, whatever it asks for
+abbrev pub line_turn : Capacity → ℕ → List ℕ → Turn
+line_turn K number line = record { said = λ R. (replied K R number line).text; after = λ R. (replied K R number line).rows }
+
+-- lines that are numbered from a number on
+abbrev pub line_turns : Capacity → ℕ → List (List ℕ) → List Turn
+line_turns K number [] = []
+line_turns K number (line ∷ lines) = line_turn K number line ∷ line_turns K (number + 1) lines
+
+-- a script
+abbrev pub script_turns : Capacity → List ℕ → List Turn
+script_turns K script = line_turns K 1 (lines script)
+
+-- ---- turns that do the same
+-- they show the same and leave the same rows, whatever rows they come to
+pub record IsAlike (one two : Turn) : Type 0 where
+  pub said : (R : Rows) → one.said R ≡ two.said R
+  pub after : (R : Rows) → one.after R ≡ two.after R
+
+-- so do these, one by one
+abbrev pub AreAlike : List Turn → List Turn → Type 0
+AreAlike [] [] = Unit {0}
+AreAlike [] (turn ∷ turns) = ⊥
+AreAlike (turn ∷ turns) [] = ⊥
+AreAlike (one ∷ ones) (two ∷ twos) = IsAlike one two × AreAlike ones twos
+
+-- ---- what is told of a command that was done
+-- the reply of this outcome, and then the lines of the acts that wait
+abbrev pub told : Capacity → Rows → List Act → ℕ → Outcome → List ℕ
+told K R waiting number outcome = reply K R 0 number outcome ++ act_lines R waiting

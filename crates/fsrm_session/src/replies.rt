@@ -1,0 +1,64 @@
+//! The reply to a command, and its acts, written to a sink.
+
+ghost use Rattle.std.specs.Prelude.{◌≡◌, ◌≤◌, ◌+◌, [], false, OnOk};
+ghost use Rattle.fsrm_model.specs.commands.Cost.{acts_cost, print_cost};
+ghost use Rattle.fsrm_model.specs.meaning.Named.{IsNamed};
+ghost use Rattle.fsrm_model.specs.texts.ActText.{act_lines};
+ghost use Rattle.fsrm_store.specs.Standing.{KeepsJournal, StandsAlike};
+ghost use Rattle.line_parts.specs.Writes.{Writes};
+ghost use Rattle.fsrm_session.specs.Turns.{told};
+
+use fsrm_model::{Answer, Ledger, Steps};
+use fsrm_outside::Sink;
+use fsrm_store::Store;
+use line_parts::TextFault;
+use reply_text::{write_act, write_answer};
+use std::alloc::Global;
+
+// Writes the line of each act that waits, in their order.
+fn write_acts<S: Sink, L: Ledger>(
+    store: &mut Store,
+    alloc: Global,
+    sink: &mut S,
+    steps: &mut Steps<L>,
+) -> Result<(), TextFault>
+    ensures rows { store.new.engine.rows ≡ store.old.engine.rows }
+    ensures size { store.new.engine.size ≡ store.old.engine.size }
+    ensures journal { KeepsJournal store.old store.new }
+    ensures stands { StandsAlike store.old store.new }
+    ensures idle { OnOk result (store.new.engine.waiting ≡ []) }
+    ensures writes { Writes S.Sink result sink.old sink.new (act_lines store.old.engine.rows store.old.engine.waiting) }
+    ensures looks { steps.new ≤ steps.old + acts_cost store.old.engine.rows.nodes store.old.engine.waiting }
+{
+    while let Some(act) = store.next_act() {
+        write_act(alloc, sink, &act, store.engine(), steps)?;
+    }
+    Ok(())
+}
+
+/// Writes the reply to a command that was taken, and the acts that it set off. Its line has this number.
+pub fn write_reply<S: Sink, L: Ledger>(
+    store: &mut Store,
+    alloc: Global,
+    sink: &mut S,
+    number: u64,
+    answer: &Answer,
+    steps: &mut Steps<L>,
+) -> Result<(), TextFault>
+    requires named { IsNamed store.old.engine.rows answer.now.outcome }
+    requires calm { answer.now.lasting ≡ false → store.old.engine.waiting ≡ [] }
+    ensures rows { store.new.engine.rows ≡ store.old.engine.rows }
+    ensures size { store.new.engine.size ≡ store.old.engine.size }
+    ensures journal { KeepsJournal store.old store.new }
+    ensures stands { StandsAlike store.old store.new }
+    ensures idle { OnOk result (store.new.engine.waiting ≡ []) }
+    ensures writes { Writes S.Sink result sink.old sink.new (told store.old.engine.size store.old.engine.rows store.old.engine.waiting number answer.now.outcome) }
+    ensures looks { steps.new ≤ steps.old + (print_cost store.old.engine.rows answer.now.outcome + acts_cost store.old.engine.rows.nodes store.old.engine.waiting) }
+{
+    write_answer(alloc, sink, number, answer, None, store.engine(), steps)?;
+    // A command that doesn't last has no action run.
+    if !answer.lasting {
+        return Ok(());
+    }
+    write_acts(store, alloc, sink, steps)
+}
