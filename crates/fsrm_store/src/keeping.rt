@@ -107,7 +107,7 @@ impl Store {
     }
 
     /// Makes the entries that are held stable, all at once, and gives the other half an image if the records are long then.
-    /// It takes no memory. `DiskFault` alone refuses it.
+    /// If none is held it does nothing. It takes no memory. `DiskFault` alone refuses it.
     pub fn flush<D: Disk, L: Ledger>(
         &mut self,
         disk: &mut D,
