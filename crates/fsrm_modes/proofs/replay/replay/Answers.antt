@@ -1,0 +1,146 @@
+use Rattle.std.proofs.Common.{◌∙◌, ap, subst, sym}
+use Rattle.fsrm_outside.specs.Members.{Members}
+use Rattle.fsrm_outside.proofs.OutsideLaws.{Laws}
+use Rattle.fsrm_store.specs.Standing.{IsReady}
+use Rattle.fsrm_store.specs.declared.store.Store.{Store}
+use Rattle.fsrm_session.specs.Members.{members}
+use Rattle.fsrm_session.specs.Turns.{script_turns}
+use Rattle.fsrm_session.proofs.Object.{laws_of}
+use Rattle.fsrm_modes.proofs.ReplayEnds.{fault_quiet, fault_replays, fault_taken, run_long, run_replays, run_taken}
+use Rattle.fsrm_modes.proofs.WholeRuns.{begins, early_safe, fault_not, fault_run, fault_show, opened_kept, opened_not, refused_tells, run_counts, run_not, run_tells, since_safe}
+use Rattle.fsrm_modes.proofs.replay.replay.Given as given
+use Rattle.fsrm_modes.proofs.replay.replay.Goals as goal
+
+abbrev object : (g : given.Over) → Members g.row.O.Denot
+object g = members g.O.Source g.O.Sink g.O.Disk
+
+laws : (g : given.Over) → Laws (object g)
+laws g = laws_of g.met.O.Sink g.met.O.Disk g.met.O.Outside
+
+pub take_script-ended-requires : goal.take_script-ended-requires
+take_script-ended-requires g c =
+    let is = c.new-session.ensures.store in
+    record {
+      few = c.requires.few;
+      most = c.requires.most;
+      sound = ap (λ (s : Store). s.sound) is ∙ c.in-Ok.ensures.sound;
+      idle = ap (λ (s : Store). s.engine.waiting) is ∙ c.in-Ok.ensures.idle;
+      none = ap (λ (s : Store). s.journal.held) is ∙ c.in-Ok.ensures.none;
+      ready = subst (λ (s : Store). IsReady g.O.Disk.reads s.journal c.recover.new.disk) (sym is) c.in-Ok.ensures.ready;
+    }
+
+pub conclude-requires : goal.conclude-requires
+conclude-requires g c = record { ready = c.take_script-ended.ensures.ready; only = c.take_script-ended.ensures.only }
+
+-- ---- the store couldn't be opened
+
+pub returns-in-Err-clause-runs : goal.returns-in-Err-clause-runs
+returns-in-Err-clause-runs g c K R script before left b = fault_replays c.in-Err.fault c.from.result K R script before c.args.outside.now c.recover.new.disk (laws g) c.from.ensures c.recover.ensures.by b
+
+pub returns-in-Err-clause-crash : goal.returns-in-Err-clause-crash
+returns-in-Err-clause-crash g c K R script before start left b disk_told sink_told =
+    early_safe K R (script_turns K script) before start c.args.outside.now c.recover.new.disk (laws g) c.recover.ensures.by c.recover.ensures.any_moment c.recover.ensures.crash c.recover.ensures.reads b disk_told sink_told
+
+pub returns-in-Err-clause-store : goal.returns-in-Err-clause-store
+returns-in-Err-clause-store g c parts reads = refused_tells parts c.in-Err.fault c.from.result c.from.ensures (c.in-Err.ensures.refused parts reads)
+
+pub returns-in-Err-clause-quiet : goal.returns-in-Err-clause-quiet
+returns-in-Err-clause-quiet g c parts reads none = fault_quiet c.args.outside.now c.recover.new.disk (laws g) c.recover.ensures.by c.recover.ensures.reads c.recover.ensures.crash
+
+pub returns-in-Err-clause-taken : goal.returns-in-Err-clause-taken
+returns-in-Err-clause-taken g c = fault_taken c.from.result c.args.outside.now c.recover.new.disk (laws g) c.recover.ensures.by
+
+pub returns-in-Err-clause-only : goal.returns-in-Err-clause-only
+returns-in-Err-clause-only g c = fault_not c.recover.result c.in-Err.fault c.from.result c.in-Err.is c.recover.ensures.only c.from.ensures
+
+pub returns-in-Err-clause-read_fault : goal.returns-in-Err-clause-read_fault
+returns-in-Err-clause-read_fault g c = (fault_run (object g) c.recover.result c.in-Err.fault c.from.result c.args.outside.now c.recover.new.disk (laws g) c.in-Err.is c.from.ensures c.recover.ensures.by c.recover.ensures.later c.recover.ensures.failed c.recover.ensures.counted).read_fault
+
+pub returns-in-Err-clause-write_fault : goal.returns-in-Err-clause-write_fault
+returns-in-Err-clause-write_fault g c = (fault_run (object g) c.recover.result c.in-Err.fault c.from.result c.args.outside.now c.recover.new.disk (laws g) c.in-Err.is c.from.ensures c.recover.ensures.by c.recover.ensures.later c.recover.ensures.failed c.recover.ensures.counted).write_fault
+
+pub returns-in-Err-clause-disk_fault : goal.returns-in-Err-clause-disk_fault
+returns-in-Err-clause-disk_fault g c = (fault_run (object g) c.recover.result c.in-Err.fault c.from.result c.args.outside.now c.recover.new.disk (laws g) c.in-Err.is c.from.ensures c.recover.ensures.by c.recover.ensures.later c.recover.ensures.failed c.recover.ensures.counted).disk_fault
+
+pub returns-in-Err-clause-reads_kept : goal.returns-in-Err-clause-reads_kept
+returns-in-Err-clause-reads_kept g c = (fault_run (object g) c.recover.result c.in-Err.fault c.from.result c.args.outside.now c.recover.new.disk (laws g) c.in-Err.is c.from.ensures c.recover.ensures.by c.recover.ensures.later c.recover.ensures.failed c.recover.ensures.counted).reads_kept
+
+pub returns-in-Err-clause-writes_kept : goal.returns-in-Err-clause-writes_kept
+returns-in-Err-clause-writes_kept g c = (fault_run (object g) c.recover.result c.in-Err.fault c.from.result c.args.outside.now c.recover.new.disk (laws g) c.in-Err.is c.from.ensures c.recover.ensures.by c.recover.ensures.later c.recover.ensures.failed c.recover.ensures.counted).writes_kept
+
+pub returns-in-Err-clause-disk_kept : goal.returns-in-Err-clause-disk_kept
+returns-in-Err-clause-disk_kept g c = (fault_run (object g) c.recover.result c.in-Err.fault c.from.result c.args.outside.now c.recover.new.disk (laws g) c.in-Err.is c.from.ensures c.recover.ensures.by c.recover.ensures.later c.recover.ensures.failed c.recover.ensures.counted).disk_kept
+
+-- ---- it was opened
+
+pub returns-clause-runs : goal.returns-clause-runs
+returns-clause-runs g c K R script before left b =
+    let first = c.args.outside.now in
+    let mid = c.recover.new.disk in
+    let store = c.in-Ok.opened in
+    let a = c.new-session.result in
+    let source = g.met.O.Outside.disk_keeps_source first mid c.recover.ensures.by in
+    let u = begins K R before store a first mid (laws g) c.recover.ensures.by b (c.in-Ok.ensures.state b.parts b.reads) (c.in-Ok.ensures.stands b.parts b.reads) c.new-session.ensures.store c.new-session.ensures.empty in
+    let took = c.take_script-ended.ensures.takes K R script before (source.same_left ∙ left) u in
+    run_replays c.take_script-ended.result c.conclude.result K R script before c.take_script-ended.new.session first mid c.take_script-ended.new.outside c.conclude.new.outside (laws g) c.recover.ensures.by
+    (opened_kept c.recover.result store _ _ c.in-Ok.is c.recover.ensures.counted) c.take_script-ended.ensures.only took (c.conclude.ensures.concludes K R (script_turns K script) before mid took.took)
+    (λ turns words v. c.conclude.ensures.whole K R turns words before v) c.take_script-ended.ensures.counts c.conclude.ensures.status c.conclude.ensures.counts c.conclude.ensures.left
+
+pub returns-clause-crash : goal.returns-clause-crash
+returns-clause-crash g c K R script before start left b disk_told sink_told =
+    let first = c.args.outside.now in
+    let mid = c.recover.new.disk in
+    let store = c.in-Ok.opened in
+    let a = c.new-session.result in
+    let source = g.met.O.Outside.disk_keeps_source first mid c.recover.ensures.by in
+    let u = begins K R before store a first mid (laws g) c.recover.ensures.by b (c.in-Ok.ensures.state b.parts b.reads) (c.in-Ok.ensures.stands b.parts b.reads) c.new-session.ensures.store c.new-session.ensures.empty in
+    let took = c.take_script-ended.ensures.takes K R script before (source.same_left ∙ left) u in
+    let out = c.conclude.ensures.concludes K R (script_turns K script) before mid took.took in
+    since_safe K R (script_turns K script) before start first mid c.conclude.new.outside (laws g) c.recover.ensures.by c.recover.ensures.any_moment (opened_not c.recover.result store c.in-Ok.is)
+    c.recover.ensures.crash c.recover.ensures.reads b disk_told sink_told out.safe
+
+pub returns-clause-store : goal.returns-clause-store
+returns-clause-store g c parts reads =
+    run_tells c.take_script-ended.result c.conclude.result parts c.in-Ok.opened.engine.size c.in-Ok.opened.engine.rows _ _ _ _ c.take_script-ended.ensures.only c.conclude.ensures.status c.conclude.ensures.counts (c.in-Ok.ensures.state parts reads)
+
+pub returns-clause-quiet : goal.returns-clause-quiet
+returns-clause-quiet g c parts reads none = absurd (none c.in-Ok.opened.engine.size c.in-Ok.opened.engine.rows (c.in-Ok.ensures.state parts reads))
+
+pub returns-clause-taken : goal.returns-clause-taken
+returns-clause-taken g c =
+    run_taken c.take_script-ended.result c.conclude.result c.args.outside.now c.recover.new.disk c.take_script-ended.new.outside c.conclude.new.outside (laws g) c.recover.ensures.by c.conclude.ensures.status c.take_script-ended.ensures.taken c.conclude.ensures.left
+
+pub returns-clause-only : goal.returns-clause-only
+returns-clause-only g c = run_not c.take_script-ended.result c.conclude.result _ _ _ _ c.take_script-ended.ensures.only c.conclude.ensures.status c.conclude.ensures.counts
+
+pub returns-clause-read_fault : goal.returns-clause-read_fault
+returns-clause-read_fault g c = (run_counts (object g) c.take_script-ended.result c.conclude.result c.args.outside.now c.recover.new.disk c.take_script-ended.new.outside c.conclude.new.outside (laws g) c.recover.ensures.by
+    (opened_kept c.recover.result c.in-Ok.opened _ _ c.in-Ok.is c.recover.ensures.counted) c.take_script-ended.ensures.only c.take_script-ended.ensures.counts c.conclude.ensures.status c.conclude.ensures.counts c.conclude.ensures.reads).read_fault
+
+pub returns-clause-write_fault : goal.returns-clause-write_fault
+returns-clause-write_fault g c = (run_counts (object g) c.take_script-ended.result c.conclude.result c.args.outside.now c.recover.new.disk c.take_script-ended.new.outside c.conclude.new.outside (laws g) c.recover.ensures.by
+    (opened_kept c.recover.result c.in-Ok.opened _ _ c.in-Ok.is c.recover.ensures.counted) c.take_script-ended.ensures.only c.take_script-ended.ensures.counts c.conclude.ensures.status c.conclude.ensures.counts c.conclude.ensures.reads).write_fault
+
+pub returns-clause-disk_fault : goal.returns-clause-disk_fault
+returns-clause-disk_fault g c = (run_counts (object g) c.take_script-ended.result c.conclude.result c.args.outside.now c.recover.new.disk c.take_script-ended.new.outside c.conclude.new.outside (laws g) c.recover.ensures.by
+    (opened_kept c.recover.result c.in-Ok.opened _ _ c.in-Ok.is c.recover.ensures.counted) c.take_script-ended.ensures.only c.take_script-ended.ensures.counts c.conclude.ensures.status c.conclude.ensures.counts c.conclude.ensures.reads).disk_fault
+
+pub returns-clause-reads_kept : goal.returns-clause-reads_kept
+returns-clause-reads_kept g c = (run_counts (object g) c.take_script-ended.result c.conclude.result c.args.outside.now c.recover.new.disk c.take_script-ended.new.outside c.conclude.new.outside (laws g) c.recover.ensures.by
+    (opened_kept c.recover.result c.in-Ok.opened _ _ c.in-Ok.is c.recover.ensures.counted) c.take_script-ended.ensures.only c.take_script-ended.ensures.counts c.conclude.ensures.status c.conclude.ensures.counts c.conclude.ensures.reads).reads_kept
+
+pub returns-clause-writes_kept : goal.returns-clause-writes_kept
+returns-clause-writes_kept g c = (run_counts (object g) c.take_script-ended.result c.conclude.result c.args.outside.now c.recover.new.disk c.take_script-ended.new.outside c.conclude.new.outside (laws g) c.recover.ensures.by
+    (opened_kept c.recover.result c.in-Ok.opened _ _ c.in-Ok.is c.recover.ensures.counted) c.take_script-ended.ensures.only c.take_script-ended.ensures.counts c.conclude.ensures.status c.conclude.ensures.counts c.conclude.ensures.reads).writes_kept
+
+pub returns-clause-disk_kept : goal.returns-clause-disk_kept
+returns-clause-disk_kept g c = (run_counts (object g) c.take_script-ended.result c.conclude.result c.args.outside.now c.recover.new.disk c.take_script-ended.new.outside c.conclude.new.outside (laws g) c.recover.ensures.by
+    (opened_kept c.recover.result c.in-Ok.opened _ _ c.in-Ok.is c.recover.ensures.counted) c.take_script-ended.ensures.only c.take_script-ended.ensures.counts c.conclude.ensures.status c.conclude.ensures.counts c.conclude.ensures.reads).disk_kept
+
+pub returns-clause-long : goal.returns-clause-long
+returns-clause-long g c script left =
+    let source = g.met.O.Outside.disk_keeps_source c.args.outside.now c.recover.new.disk c.recover.ensures.by in
+    run_long (object g) c.take_script-ended.result c.conclude.result script c.take_script-ended.new.outside c.conclude.new.outside _ _ _ _ c.conclude.ensures.status c.conclude.ensures.counts (c.take_script-ended.ensures.long script (source.same_left ∙ left)) c.conclude.ensures.left
+
+pub returns-in-Err-clause-long : goal.returns-in-Err-clause-long
+returns-in-Err-clause-long g c script left long = absurd ((fault_show c.recover.result c.in-Err.fault c.from.result c.in-Err.is c.recover.ensures.only c.from.ensures).2 long)
