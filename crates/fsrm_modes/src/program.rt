@@ -46,7 +46,7 @@ pub fn run<O: Outside, L: Ledger>(
     // ---- `replay`: what is shown begins the script's text, and at Done is all of it, and is kept.
     ensures replay { (group : ℕ) (K : Capacity) (R : Rows) (script before : List ℕ) → mode (map string_bytes words.now) ≡ Some (Replay group) → O.left outside.old ≡ Some script → Begins (members O.Source O.Sink O.Disk) K R before outside.old
         → Replays (members O.Source O.Sink O.Disk) K R result script before outside.old outside.new }
-    // Whatever a crash leaves at any moment from the first successful sync on is kept of some first lines, which hold all
+    // Up to some moment nothing is shown, and a crash leaves what it might have left at entry; from then on what is kept of some first lines, which hold all
     // whose replies are shown.
     ensures crash { (group : ℕ) (K : Capacity) (R : Rows) (script before : List ℕ) (start : ℕ) → mode (map string_bytes words.now) ≡ Some (Replay group) → O.left outside.old ≡ Some script → Begins (members O.Source O.Sink O.Disk) K R before outside.old
         → O.disk_clock outside.old ≡ Some start → O.sink_clock outside.old ≡ Some start → CrashSafe (members O.Source O.Sink O.Disk) (Covers K R (script_turns K script)) start outside.old outside.new }
