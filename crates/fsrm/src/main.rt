@@ -1,18 +1,26 @@
-//! The program: reads a script from standard input and writes the replies to standard output.
+//! The program: does what the words on its command line ask for, over the process's streams and the store in its folder.
 #![tactic(auto)]
 
 ghost use Rattle.std.specs.Prelude.{◌≡◌, ◌<◌};
 ghost use Rattle.fsrm.specs.Exit.{exit_status, exit_message};
 
 use fsrm_model::{Steps, Weightless};
-use fsrm_outside::RealOutside;
-use fsrm_program::{Status, run};
+use fsrm_modes::{Status, run};
+use fsrm_outside::{Part, RealOutside};
+use program_words::{help_text, version_text};
 use std::alloc::Global;
 use std::env;
 use std::io::ErrorKind;
 use std::marker::Brand;
 use std::process::ExitCode;
 use std::sync::ledger::{Blank, Ledger};
+
+// A text that is asked for alone, in place of a mode.
+#[derive(Clone, Copy)]
+enum TextAsked {
+    Help,
+    Version,
+}
 
 // The words after the program's name. A word that isn't text is not understood.
 fn words_given(rt: &HostRuntime, alloc: Global) -> Result<Vec<String>, Status> {
@@ -30,6 +38,32 @@ fn words_given(rt: &HostRuntime, alloc: Global) -> Result<Vec<String>, Status> {
     Ok(words)
 }
 
+fn text_asked(words: &[String]) -> Option<TextAsked> {
+    let [word] = words else {
+        return None;
+    };
+    match word.as_str() {
+        "--help" | "-h" => Some(TextAsked::Help),
+        "--version" | "-V" => Some(TextAsked::Version),
+        _ => None,
+    }
+}
+
+// Writes the text on standard output.
+fn show_text(rt: &HostRuntime, alloc: Global, asked: TextAsked) -> Status {
+    let text = match asked {
+        TextAsked::Help => help_text(alloc),
+        TextAsked::Version => version_text(alloc),
+    };
+    let Ok(text) = text else {
+        return Status::NoMemory;
+    };
+    match print!(rt; "{text}") {
+        Ok(()) => Status::Done,
+        Err(_) => Status::WriteFault,
+    }
+}
+
 // Runs, and counts the looks in a ledger that takes no bytes.
 fn run_counted<B: Ledger>(rt: &HostRuntime, alloc: Global, blank: Blank) -> Status
     requires name { blank.name ≡ B.name }
@@ -40,6 +74,9 @@ fn run_counted<B: Ledger>(rt: &HostRuntime, alloc: Global, blank: Blank) -> Stat
         Ok(words) => words,
         Err(status) => return status,
     };
+    if let Some(asked) = text_asked(words.as_slice()) {
+        return show_text(rt, alloc, asked);
+    }
     let Ok(mut outside) = RealOutside::new(rt, alloc) else {
         return Status::NoMemory;
     };
@@ -57,17 +94,33 @@ fn exit_of(status: Status) -> (u8, &'static str)
         Status::Usage => (2, "fsrm: words not understood"),
         Status::ReadFault => (3, "fsrm: input failed"),
         Status::WriteFault => (4, "fsrm: output failed"),
+        Status::DiskFault => (5, "fsrm: store device failed"),
         Status::TooLong => (6, "fsrm: script too long"),
+        Status::Damaged { .. } => (7, "fsrm: store damaged"),
         Status::NoMemory => (8, "fsrm: out of memory"),
+        Status::NoStore => (9, "fsrm: no store here"),
+        Status::AlreadyStore => (10, "fsrm: a store is here already"),
+    }
+}
+
+fn part_number(part: Part) -> u8 {
+    match part {
+        Part::Zero => 0,
+        Part::One => 1,
     }
 }
 
 fn main(rt: HostRuntime) -> ExitCode {
     let status = run_counted::<Brand>(&rt, rt.alloc(), Blank::new(1));
     let (number, text) = exit_of(status);
-    if number != 0 {
-        // If standard error is closed too, the exit status tells it alone.
-        let _ = eprintln!(rt; "{text}");
-    }
+    // If standard error is closed too, the exit status tells it alone.
+    let _ = match status {
+        Status::Done => Ok(()),
+        Status::Damaged { part, place } => {
+            let part = part_number(part);
+            eprintln!(rt; "{text} at part {part} place {place}")
+        }
+        _ => eprintln!(rt; "{text}"),
+    };
     ExitCode::from(number)
 }
