@@ -5,16 +5,19 @@ import resource
 import shutil
 import subprocess
 import sys
+import tempfile
 
 HERE = os.path.dirname(os.path.abspath(__file__))
 COUNTED = shutil.which('valgrind') is not None
+# The fewest syncs: what a line costs isn't to depend on the disk.
+REPLAY = ('replay', '--group', '1024')
 # GNU time: of the program's own peak. What the system tells of a child has in it what this script itself takes.
 TIME = shutil.which('time')
 
 
 def own_program():
     """The program that is measured: the word that the script was given, or what `rt run` builds."""
-    return sys.argv[1] if len(sys.argv) > 1 else os.path.join(HERE, '../crates/fsrm/out/fsrm')
+    return os.path.abspath(sys.argv[1]) if len(sys.argv) > 1 else os.path.join(HERE, '../crates/fsrm/out/fsrm')
 
 
 def rival_program(folder):
@@ -56,11 +59,17 @@ def processor_time():
     return used.ru_utime + used.ru_stime
 
 
+def new_store(program, folder):
+    """Makes a store in the folder. A rival, which keeps none, finds no line to read."""
+    subprocess.run([program, 'init'], cwd=folder, stdin=subprocess.DEVNULL, check=True)
+
+
 def replay(program, script, replies=os.devnull, under=()):
-    """How long a processor works on a script. What else the machine does counts for little there."""
-    with open(script, 'rb') as lines, open(replies, 'wb') as written:
+    """How long a processor works on a script, over a new store. What else the machine does counts for little there."""
+    with tempfile.TemporaryDirectory() as store, open(script, 'rb') as lines, open(replies, 'wb') as written:
+        new_store(program, store)
         begun = processor_time()
-        subprocess.run([*under, program, 'replay'], stdin=lines, stdout=written, check=True)
+        subprocess.run([*under, program, *REPLAY], cwd=store, stdin=lines, stdout=written, check=True)
         return processor_time() - begun
 
 
@@ -89,5 +98,6 @@ def counted(words, counts, **streams):
 
 
 def instructions(program, script, folder):
-    with open(script, 'rb') as lines:
-        return counted([program, 'replay'], os.path.join(folder, 'callgrind.out'), stdin=lines)
+    with tempfile.TemporaryDirectory() as store, open(script, 'rb') as lines:
+        new_store(program, store)
+        return counted([program, *REPLAY], os.path.join(folder, 'callgrind.out'), stdin=lines, cwd=store)

@@ -10,6 +10,7 @@ use fsrm_outside::{Part, RealOutside};
 use program_words::{help_text, version_text};
 use std::alloc::Global;
 use std::env;
+use std::fs::File;
 use std::io::ErrorKind;
 use std::marker::Brand;
 use std::process::ExitCode;
@@ -64,6 +65,16 @@ fn show_text(rt: &HostRuntime, alloc: Global, asked: TextAsked) -> Status {
     }
 }
 
+// Opens the current folder three times. The system gives the number of a standard stream that is closed to the next file
+// that is opened; were that one of the store, replies would be written over it. A folder can be neither read nor written
+// so, and the stream fails as a closed one does.
+fn stand_ins(rt: &HostRuntime) -> Option<(File, File, File)> {
+    let first = File::open(rt, ".").ok()?;
+    let second = File::open(rt, ".").ok()?;
+    let third = File::open(rt, ".").ok()?;
+    Some((first, second, third))
+}
+
 // Runs, and counts the looks in a ledger that takes no bytes.
 fn run_counted<B: Ledger>(rt: &HostRuntime, alloc: Global, blank: Blank) -> Status
     requires name { blank.name ≡ B.name }
@@ -77,6 +88,9 @@ fn run_counted<B: Ledger>(rt: &HostRuntime, alloc: Global, blank: Blank) -> Stat
     if let Some(asked) = text_asked(words.as_slice()) {
         return show_text(rt, alloc, asked);
     }
+    let Some(_open) = stand_ins(rt) else {
+        return Status::DiskFault;
+    };
     let Ok(mut outside) = RealOutside::new(rt, alloc) else {
         return Status::NoMemory;
     };

@@ -1,6 +1,6 @@
 //! What no clause says of the crates that keep a store: that each public call succeeds with ample memory, that the bytes
-//! are those of the formats (`docs/FORMATS.md`), and that a journal which is stopped is found as it has to be. The
-//! expected values were worked out by hand. The tests of all other crates stand in `vectors`, which says how a test is
+//! are those of the formats (`docs/FORMATS.md`), and that a journal or a run which is stopped, or of which a call fails, is
+//! found as it has to be. The expected values were worked out by hand. The tests of all other crates stand in `vectors`, which says how a test is
 //! kept short to prove.
 #![tactic(auto)]
 
@@ -14,3 +14,9 @@ mod fields;
 mod images;
 #[cfg(test)]
 mod journals;
+#[cfg(test)]
+mod run_faults;
+#[cfg(test)]
+mod run_stops;
+#[cfg(test)]
+mod runs;

@@ -45,8 +45,6 @@ mod rows;
 #[cfg(test)]
 mod rows_back;
 #[cfg(test)]
-mod runs;
-#[cfg(test)]
 mod scans;
 #[cfg(test)]
 mod spoilt_rows;

@@ -1,4 +1,4 @@
-use Rattle.vectors.proofs.runs.run_words.Given as goal
+use Rattle.store_vectors.proofs.runs.run_words.Given as goal
 
 -- the ledger is that of the blank
 abbrev pub ghosts-run_counted : goal.ghosts-run_counted
