@@ -10,8 +10,8 @@ use std::marker::Brand;
 use std::sync::ledger::{Blank, Ledger};
 use std::test::Fail;
 
-// The sessions of the built program replay the same script (`.ci/scripts/in-memory-too.fsrm`).
-const SCRIPT: &[u8] = b"0 create D:\\a 5000 1\n0 create D:\\a 1 1\n0 usage D:\\\nx";
+/// The sessions of the built program replay the same script (`.ci/scripts/in-memory-too.fsrm`).
+pub const SCRIPT: &[u8] = b"0 create D:\\a 5000 1\n0 create D:\\a 1 1\n0 usage D:\\\nx";
 
 const REPLIES: &[u8] = b"1 ok\n2 refused AlreadyExists\n3 ok\n  8192 D:\\\n4 refused BadLine 1\n";
 
