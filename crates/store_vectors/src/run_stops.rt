@@ -15,25 +15,29 @@ pub const SCRIPT: &[u8] = b"100 mkdir D:\\a 1
 100 usage D:\\
 ";
 
-// The replies to the four commands over a store that keeps none of them, the first, the first two and so on.
-const AGAIN: [&[u8]; 5] = [
-    b"1 ok\n2 ok\n3 ok\n4 ok\n",
-    b"1 refused AlreadyExists\n2 ok\n3 ok\n4 ok\n",
-    b"1 refused AlreadyExists\n2 refused AlreadyExists\n3 ok\n4 ok\n",
-    b"1 refused AlreadyExists\n2 refused AlreadyExists\n3 refused AlreadyExists\n4 ok\n",
-    b"1 refused AlreadyExists\n2 refused AlreadyExists\n3 refused AlreadyExists\n4 refused AlreadyExists\n",
+// The replies to the four commands over a store that keeps none of them, the first, the first two and so on; and how many
+// bytes of replies a run may have shown of which so many commands are kept.
+const AGAIN: [(&[u8], usize); 5] = [
+    (b"1 ok\n2 ok\n3 ok\n4 ok\n", 0),
+    (b"1 refused AlreadyExists\n2 ok\n3 ok\n4 ok\n", 5),
+    (b"1 refused AlreadyExists\n2 refused AlreadyExists\n3 ok\n4 ok\n", 10),
+    (
+        b"1 refused AlreadyExists\n2 refused AlreadyExists\n3 refused AlreadyExists\n4 ok\n",
+        15,
+    ),
+    (
+        b"1 refused AlreadyExists\n2 refused AlreadyExists\n3 refused AlreadyExists\n4 refused AlreadyExists\n",
+        usize::MAX,
+    ),
 ];
-
-// How many bytes of replies a run may have shown of which so many commands are kept.
-const SHOWN: [usize; 5] = [0, 5, 10, 15, usize::MAX];
 
 /// Whether what is left of a run is the effect of some first commands, which hold all of whose replies it showed a byte.
 pub fn kept(rt: &HostRuntime, left: &MemoryOutside) -> Result<bool, Fail> {
     let mut later = over(rt, left, SCRIPT, [].as_slice())?;
     let status = replay(rt, &mut later, "2")?;
-    for (again, shown) in AGAIN.iter().zip(SHOWN.iter()) {
+    for (again, most) in AGAIN {
         if later.shown().starts_with(again) {
-            return Ok(status == Status::Done && left.shown().len() <= *shown);
+            return Ok(status == Status::Done && left.shown().len() <= most);
         }
     }
     Ok(false)
