@@ -81,12 +81,7 @@ fn is_told(outside: &MemoryOutside, call: u64, status: Status) -> bool {
 
 // Whether a run of which this call fails says so, shows a beginning of the replies, and leaves the effect of some first
 // lines, which hold all whose replies it showed.
-fn is_safe(
-    rt: &HostRuntime,
-    store: &MemoryOutside,
-    call: u64,
-    group: &str,
-) -> Result<bool, Fail> {
+fn is_safe(rt: &HostRuntime, store: &MemoryOutside, call: u64, group: &str) -> Result<bool, Fail> {
     let mut outside = over(rt, store, SCRIPT, [call].as_slice())?;
     outside.set_piece(40);
     let status = replay(rt, &mut outside, group)?;

@@ -20,7 +20,10 @@ pub const SCRIPT: &[u8] = b"100 mkdir D:\\a 1
 const AGAIN: [(&[u8], usize); 5] = [
     (b"1 ok\n2 ok\n3 ok\n4 ok\n", 0),
     (b"1 refused AlreadyExists\n2 ok\n3 ok\n4 ok\n", 5),
-    (b"1 refused AlreadyExists\n2 refused AlreadyExists\n3 ok\n4 ok\n", 10),
+    (
+        b"1 refused AlreadyExists\n2 refused AlreadyExists\n3 ok\n4 ok\n",
+        10,
+    ),
     (
         b"1 refused AlreadyExists\n2 refused AlreadyExists\n3 refused AlreadyExists\n4 ok\n",
         15,
@@ -61,12 +64,7 @@ fn is_safe(
 }
 
 // Whether that holds of each image that a test may pick.
-fn are_safe(
-    rt: &HostRuntime,
-    store: &MemoryOutside,
-    stop: u64,
-    group: &str,
-) -> Result<bool, Fail> {
+fn are_safe(rt: &HostRuntime, store: &MemoryOutside, stop: u64, group: &str) -> Result<bool, Fail> {
     for pick in [Pick::Lost, Pick::Taken, Pick::Fill(1), Pick::Fill(255)] {
         if !is_safe(rt, store, stop, pick, group)? {
             return Ok(false);

@@ -96,8 +96,13 @@ fn other_words_ask_for_nothing(rt: HostRuntime) -> Result<(), Fail> {
 #[test]
 fn a_damaged_store_is_told(rt: HostRuntime) -> Result<(), Fail> {
     let (part, place) = (Part::Zero, 1);
-    let mut outside =
-        MemoryOutside::with_parts(rt.alloc(), [1].as_slice(), &[], SCRIPT, [].as_slice())?;
+    let mut outside = MemoryOutside::with_parts(
+        rt.alloc(),
+        [1].as_slice(),
+        &[],
+        SCRIPT,
+        [].as_slice(),
+    )?;
     assert!(rt; ask(&rt, &mut outside, "show")? == Status::Damaged { part, place });
     assert!(rt; ask(&rt, &mut outside, "replay")? == Status::Damaged { part, place });
     assert!(rt; ask(&rt, &mut outside, "init")? == Status::AlreadyStore);
