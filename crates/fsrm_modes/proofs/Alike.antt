@@ -42,11 +42,11 @@ rows_alike R (x ∷ xs) (y ∷ ys) h = ap (λ (S : Rows). rows_after S xs) (h.0.
 -- ---- more turns, and fewer
 pub alike_same : (turns : List Turn) → AreAlike turns turns
 alike_same [] = tt
-alike_same (turn ∷ turns) = (record { said = λ R. refl; after = λ R. refl }, alike_same turns)
+alike_same (turn ∷ turns) = (record { said = λ R. refl; after = λ R. refl; looks = λ R. refl; bytes = λ R. refl }, alike_same turns)
 
 pub alike_after : (turns xs ys : List Turn) → AreAlike xs ys → AreAlike (turns ++ xs) (turns ++ ys)
 alike_after [] xs ys h = h
-alike_after (turn ∷ turns) xs ys h = (record { said = λ R. refl; after = λ R. refl }, alike_after turns xs ys h)
+alike_after (turn ∷ turns) xs ys h = (record { said = λ R. refl; after = λ R. refl; looks = λ R. refl; bytes = λ R. refl }, alike_after turns xs ys h)
 
 -- turns that are split as those are that they are like
 record Splits (first later turns : List Turn) : Type 0 where

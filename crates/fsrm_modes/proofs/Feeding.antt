@@ -7,10 +7,12 @@ use Rattle.std.proofs.lemmas.List.{append-nil, nil_from_length, take_all, length
 use Rattle.std.proofs.lemmas.List.Folds.{list_any-append}
 use Rattle.fsrm_model.specs.declared.row.Capacity.{Capacity}
 use Rattle.fsrm_model.specs.declared.row.Rows.{Rows}
-use Rattle.fsrm_model.specs.lines.Script.{is_end, lines, spelled_lines, Replied, replied}
-use Rattle.fsrm_model.proofs.lines.ScriptLaws.{lines_last, spelled_lines-append, AreLines-append, replied-held}
+use Rattle.fsrm_model.specs.lines.Script.{is_end, lines, spelled_lines, Replied, replied, line_cost}
+use Rattle.fsrm_model.specs.store.Replays.{line_entries, read_entries}
+use Rattle.fsrm_model.proofs.lines.ScriptLaws.{lines_last, spelled_lines-append, AreLines-append, line_cost-held, read_line-held, replied-held}
 use Rattle.fsrm_outside.specs.Members.{Members}
 use Rattle.fsrm_outside.proofs.OutsideLaws.{Laws}
+use Rattle.fsrm_store.specs.Amortized.{entries_bytes}
 use Rattle.fsrm_session.specs.Turns.{AreAlike, Turn, line_turn, line_turns}
 use Rattle.fsrm_session.specs.Underway.{Breaks, Calms, Goes, Stops}
 use Rattle.fsrm_session.specs.declared.session.Session.{Session}
@@ -40,7 +42,7 @@ fed_nothing K a session now laws = record {
 }
 
 -- the streams of two pieces
-joined : (line xs ys next : List ℕ) (ended : List (List ℕ)) → line ++ xs ≡ spelled_lines ended ++ next → line ++ (xs ++ ys) ≡ spelled_lines ended ++ (next ++ ys)
+pub joined : (line xs ys next : List ℕ) (ended : List (List ℕ)) → line ++ xs ≡ spelled_lines ended ++ next → line ++ (xs ++ ys) ≡ spelled_lines ended ++ (next ++ ys)
 joined line xs ys next ended e = sym (append_assoc line xs ys) ∙ ap (λ (bs : List ℕ). bs ++ ys) e ∙ append_assoc (spelled_lines ended) next ys
 
 joined_more : (stream next rest : List ℕ) (xs ys : List (List ℕ)) → stream ≡ spelled_lines xs ++ next → next ≡ spelled_lines ys ++ rest → stream ≡ spelled_lines (xs ++ ys) ++ rest
@@ -171,7 +173,7 @@ says_line (byte ∷ bytes) rest kept lent said none some same whole cut =
     let is : lent ≡ take 65538 (held ++ rest) = same ∙ some (λ e. cc) short in
     cut (λ e. absurd (omega (arith, ap length is, ap length e, length-take 65538 (held ++ rest)))) ∙ is)
 
-one_line-append : (line rest : List ℕ) → list_any is_end line ≡ false → list_any is_end rest ≡ false → list_any is_end (line ++ rest) ≡ false
+pub one_line-append : (line rest : List ℕ) → list_any is_end line ≡ false → list_any is_end rest ≡ false → list_any is_end (line ++ rest) ≡ false
 one_line-append line rest p q = list_any-append is_end line rest ∙ nor (list_any is_end line) (list_any is_end rest) p q
 
 -- bytes that end no line
@@ -192,10 +194,21 @@ fed_held K a b bytes session now laws one line held = record {
 }
 
 -- lines that are read alike
-said_alike : (K : Capacity) (n : ℕ) (said line : List ℕ) → take 65538 said ≡ take 65538 line → AreAlike (line_turn K n said ∷ []) (line_turn K n line ∷ [])
+line_entries-held : (K : Capacity) (R : Rows) (line : List ℕ) → line_entries K R (take 65538 line) ≡ line_entries K R line
+unfolding line_entries
+line_entries-held K R line = ap (read_entries K R) (read_line-held line)
+
+pub said_alike : (K : Capacity) (n : ℕ) (said line : List ℕ) → take 65538 said ≡ take 65538 line → AreAlike (line_turn K n said ∷ []) (line_turn K n line ∷ [])
 said_alike K n said line e =
-    let same : (R : Rows) → replied K R n said ≡ replied K R n line = λ R. sym (replied-held K R n said) ∙ ap (λ (bs : List ℕ). replied K R n bs) e ∙ replied-held K R n line in
-    (record { said = λ R. ap (λ (x : Replied). x.text) (same R); after = λ R. ap (λ (x : Replied). x.rows) (same R) }, tt)
+    let same : (R : Rows) → replied K R n said ≡ replied K R n line = λ R. sym (replied-held K R n said) ∙ ap (λ (bs : List ℕ). replied K R n bs) e ∙ replied-held K R n line in (
+      record {
+        said = λ R. ap (λ (x : Replied). x.text) (same R);
+        after = λ R. ap (λ (x : Replied). x.rows) (same R);
+        looks = λ R. sym (line_cost-held K R said) ∙ ap (λ (bs : List ℕ). line_cost K R bs) e ∙ line_cost-held K R line;
+        bytes = λ R. ap entries_bytes (sym (line_entries-held K R said) ∙ ap (λ (bs : List ℕ). line_entries K R bs) e ∙ line_entries-held K R line);
+      },
+      tt,
+    )
 
 line_stream : (line rest : List ℕ) → line ++ (rest ++ 10 ∷ []) ≡ spelled_lines ((line ++ rest) ∷ []) ++ []
 line_stream line rest = sym (append_assoc line rest (10 ∷ [])) ∙ sym (append-nil ((line ++ rest) ++ 10 ∷ []))
@@ -243,10 +256,10 @@ last_lines : (line held : List ℕ) → IsHeld line held → (held ≡ [] → �
 last_lines [] held h some = absurd (some h.kept)
 last_lines (byte ∷ line) held h some = lines_last byte line h.one_line
 
-last_alike : (K : Capacity) (n : ℕ) (line held said : List ℕ) → IsHeld line held → said ≡ held → AreAlike (line_turn K n said ∷ []) (line_turn K n line ∷ [])
+pub last_alike : (K : Capacity) (n : ℕ) (line held said : List ℕ) → IsHeld line held → said ≡ held → AreAlike (line_turn K n said ∷ []) (line_turn K n line ∷ [])
 last_alike K n line held said h same = said_alike K n said line (ap (λ (bs : List ℕ). take 65538 bs) (same ∙ h.kept) ∙ take_twice line)
 
-last_turns : (K : Capacity) (n : ℕ) (line held : List ℕ) → IsHeld line held → (held ≡ [] → ⊥) → line_turn K n line ∷ [] ≡ line_turns K n (lines line)
+pub last_turns : (K : Capacity) (n : ℕ) (line held : List ℕ) → IsHeld line held → (held ≡ [] → ⊥) → line_turn K n line ∷ [] ≡ line_turns K n (lines line)
 last_turns K n line held h some = ap (line_turns K n) (sym (last_lines line held h some))
 
 -- there is one

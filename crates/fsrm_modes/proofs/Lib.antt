@@ -13,6 +13,8 @@ pub mod ReplayEnds
 pub mod RunEnds
 pub mod ScriptTurns
 pub mod Showing
+pub mod Spending
+pub mod Spent
 pub mod Taking
 pub mod Whole
 pub mod WholeRuns

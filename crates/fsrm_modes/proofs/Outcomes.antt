@@ -9,11 +9,13 @@ use Rattle.fsrm_model.specs.declared.row.Rows.{Rows}
 use Rattle.fsrm_model.specs.lines.Line.{read_line, is_line_refusal}
 use Rattle.fsrm_model.specs.lines.Reading.{Read}
 use Rattle.fsrm_model.specs.lines.Script.{Replied, without_cr, replied, replied_to}
+use Rattle.fsrm_model.specs.store.Replays.{line_entries, read_entries}
 use Rattle.fsrm_model.specs.texts.Text.{is_bare}
 use Rattle.fsrm_model.proofs.lines.LineRefusals.{line_refusal}
-use Rattle.fsrm_model.proofs.lines.PlainMachine.{replied-read}
+use Rattle.fsrm_model.proofs.lines.PlainMachine.{line_cost-read, replied-read}
 use Rattle.fsrm_outside.specs.Members.{Members}
 use Rattle.fsrm_outside.proofs.OutsideLaws.{Laws}
+use Rattle.fsrm_store.specs.Amortized.{entries_bytes}
 use Rattle.fsrm_session.specs.Counts.{StopCounts}
 use Rattle.fsrm_session.specs.Turns.{AreAlike, IsAlike, Turn, command_turn, line_turn, refused_turn}
 use Rattle.fsrm_session.specs.Underway.{Goes, Stops}
@@ -52,15 +54,36 @@ was_refused read fault refusal e is = subst (λ (f : LineFault). IsFault f read)
 read_alike : (K : Capacity) (n : ℕ) (line text : List ℕ) (r : Option (Read Command)) → text ≡ without_cr line → read_line text ≡ r → (R : Rows) → replied_to K R n r ≡ replied K R n line
 read_alike K n line text r cr e R = sym (replied-read K R n line r (sym (ap read_line cr) ∙ e))
 
+-- the entries of a line go by what it reads as
+line_entries-read : (K : Capacity) (R : Rows) (line : List ℕ) (r : Option (Read Command)) → read_line (without_cr line) ≡ r → line_entries K R line ≡ read_entries K R r
+unfolding line_entries
+line_entries-read K R line r e = ap (read_entries K R) e
+
 pub command_alike : (K : Capacity) (n : ℕ) (line text : List ℕ) (c : Command) → text ≡ without_cr line → read_line text ≡ Some (Ok c) → AreAlike (command_turn K n c ∷ []) (line_turn K n line ∷ [])
 command_alike K n line text c cr e =
     let same = read_alike K n line text (Some (Ok c)) cr e in
-    (record { said = λ R. ap (λ (x : Replied). x.text) (same R); after = λ R. ap (λ (x : Replied). x.rows) (same R) }, tt)
+    let read : read_line (without_cr line) ≡ Some (Ok c) = sym (ap read_line cr) ∙ e in (
+      record {
+        said = λ R. ap (λ (x : Replied). x.text) (same R);
+        after = λ R. ap (λ (x : Replied). x.rows) (same R);
+        looks = λ R. sym (line_cost-read K R line (Some (Ok c)) read);
+        bytes = λ R. ap entries_bytes (sym (line_entries-read K R line (Some (Ok c)) read));
+      },
+      tt,
+    )
 
 pub refusal_alike : (K : Capacity) (n : ℕ) (line text : List ℕ) (refusal : Refusal) → text ≡ without_cr line → read_line text ≡ Some (Err refusal) → AreAlike (refused_turn K n refusal ∷ []) (line_turn K n line ∷ [])
 refusal_alike K n line text refusal cr e =
     let same = read_alike K n line text (Some (Err refusal)) cr e in
-    (record { said = λ R. ap (λ (x : Replied). x.text) (same R); after = λ R. ap (λ (x : Replied). x.rows) (same R) }, tt)
+    let read : read_line (without_cr line) ≡ Some (Err refusal) = sym (ap read_line cr) ∙ e in (
+      record {
+        said = λ R. ap (λ (x : Replied). x.text) (same R);
+        after = λ R. ap (λ (x : Replied). x.rows) (same R);
+        looks = λ R. sym (line_cost-read K R line (Some (Err refusal)) read);
+        bytes = λ R. ap entries_bytes (sym (line_entries-read K R line (Some (Err refusal)) read));
+      },
+      tt,
+    )
 
 -- a line that is skipped
 pub skipped_goes : {O : Type 0} {M : Members O} (K : Capacity) (n : ℕ) (line text : List ℕ) (session : Session) (now : O) → Laws M → text ≡ without_cr line → read_line text ≡ None → Goes M (line_turn K n line ∷ []) session session now now

@@ -24,15 +24,15 @@ use Rattle.fsrm_modes.specs.declared.status.Status.TheVariants.{Done, Usage, Rea
 use Rattle.fsrm_modes.proofs.Feeding.{held_nothing, turns_stop, turns_then}
 
 -- whole lines that the script begins with, and those after them
-divides : (script rest : List ℕ) (ended : List (List ℕ)) → AreLines ended → script ≡ spelled_lines ended ++ rest → ended ++ lines rest ≡ lines script
+pub divides : (script rest : List ℕ) (ended : List (List ℕ)) → AreLines ended → script ≡ spelled_lines ended ++ rest → ended ++ lines rest ≡ lines script
 divides script rest ended each e = sym (ap lines e ∙ lines_spelled ended rest each)
 
 -- ---- the script was taken whole
-record AllTaken (script bytes : List ℕ) (left : Option (List ℕ)) : Type 0 where
-  script_is : script ≡ bytes
-  at_end : left ≡ Some []
+pub record AllTaken (script bytes : List ℕ) (left : Option (List ℕ)) : Type 0 where
+  pub script_is : script ≡ bytes
+  pub at_end : left ≡ Some []
 
-all_taken : {O : Type 0} {M : Members O} (K : Capacity) (a b : Place) (script : List ℕ) (was now : Session) (old new : O) → M.left old ≡ Some script → (r : ReadsAll M K a b was now old new) → AllTaken script r.takes.bytes (M.left new)
+pub all_taken : {O : Type 0} {M : Members O} (K : Capacity) (a b : Place) (script : List ℕ) (was now : Session) (old new : O) → M.left old ≡ Some script → (r : ReadsAll M K a b was now old new) → AllTaken script r.takes.bytes (M.left new)
 all_taken K a b script was now old new told r =
     let t = r.takes.taken.rest script told in
     let none : t.0 ≡ [] = r.at_end.ended t.0 t.2 in

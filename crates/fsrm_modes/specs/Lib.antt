@@ -1,6 +1,7 @@
 pub mod Answers
 pub mod Bytes
 pub mod Ends
+pub mod Looks
 pub mod Pieces
 pub mod Places
 pub mod Promises

@@ -5,6 +5,7 @@ ghost use Rattle.fsrm_model.specs.lines.Script.{without_cr};
 ghost use Rattle.fsrm_model.specs.store.Valued.{is_command};
 ghost use Rattle.fsrm_session.specs.Counts.{Counts};
 ghost use Rattle.fsrm_session.specs.Members.{members};
+ghost use Rattle.fsrm_session.specs.Spending.{bytes_after, Spends};
 ghost use Rattle.fsrm_session.specs.Turns.{command_turn, line_turn};
 ghost use Rattle.fsrm_session.specs.Underway.{CanFlush, CanTake, Goes, Stops};
 
@@ -44,6 +45,7 @@ fn take_read<O: Outside, L: Ledger>(
     ensures reads { O.read_faults outside.new ≡ O.read_faults outside.old }
     ensures left { O.left outside.new ≡ O.left outside.old }
     ensures size { OnOk result (session.new.store.engine.size ≡ session.old.store.engine.size) }
+    ensures looks { Spends (members O.Source O.Sink O.Disk) (command_turn session.old.store.engine.size number command ∷ []) session.old outside.old steps.old steps.new (bytes_after result session.new) }
 {
     session.take(outside, number, &command, steps)
 }
@@ -66,6 +68,7 @@ fn answer_words<O: Outside, L: Ledger>(
     ensures reads { O.read_faults outside.new ≡ O.read_faults outside.old }
     ensures left { O.left outside.new ≡ O.left outside.old }
     ensures size { OnOk result (session.new.store.engine.size ≡ session.old.store.engine.size) }
+    ensures looks { Spends (members O.Source O.Sink O.Disk) (line_turn session.old.store.engine.size number line.now ∷ []) session.old outside.old steps.old steps.new (bytes_after result session.new) }
 {
     match read_line(alloc, without_cr(line)) {
         Ok(Some(command)) => take_read(session, outside, number, command, steps),
@@ -93,6 +96,7 @@ pub fn answer<O: Outside, L: Ledger>(
     ensures reads { O.read_faults outside.new ≡ O.read_faults outside.old }
     ensures left { O.left outside.new ≡ O.left outside.old }
     ensures size { OnOk result (session.new.store.engine.size ≡ session.old.store.engine.size) }
+    ensures looks { Spends (members O.Source O.Sink O.Disk) (line_turn session.old.store.engine.size number line.now ∷ []) session.old outside.old steps.old steps.new (bytes_after result session.new) }
 {
     if is_skipped_line(without_cr(line)) {
         return Ok(());

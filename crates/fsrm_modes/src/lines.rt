@@ -6,8 +6,10 @@ ghost use Rattle.fsrm_model.specs.values.Limits.{longest_line};
 ghost use Rattle.fsrm_model.specs.lines.Script.{is_end};
 ghost use Rattle.fsrm_session.specs.Counts.{Counts};
 ghost use Rattle.fsrm_session.specs.Members.{members};
+ghost use Rattle.fsrm_session.specs.Spending.{bytes_after};
 ghost use Rattle.fsrm_session.specs.Underway.{CanFlush, CanTake};
 ghost use Rattle.fsrm_modes.specs.Bytes.{CutsLine};
+ghost use Rattle.fsrm_modes.specs.Looks.{SpendsLast, SpendsLines};
 ghost use Rattle.fsrm_modes.specs.Places.{place_of};
 ghost use Rattle.fsrm_modes.specs.Reading.{Broken, EndBroken, Ends, Fed};
 
@@ -92,6 +94,7 @@ fn answer_line<O: Outside, L: Ledger>(
     ensures reads { O.read_faults outside.new ≡ O.read_faults outside.old }
     ensures left { O.left outside.new ≡ O.left outside.old }
     ensures size { OnOk result (session.new.store.engine.size ≡ session.old.store.engine.size) }
+    ensures looks { SpendsLines (members O.Source O.Sink O.Disk) session.old.store.engine.size (place_of lines.old) (rest.now ++ 10 ∷ []) session.old outside.old steps.old steps.new (bytes_after result session.new) }
 {
     if hold_end(&mut lines.held, rest).is_err() {
         return Err(Stop::NoMemory);
@@ -121,6 +124,7 @@ pub fn feed<O: Outside, L: Ledger>(
     ensures reads { O.read_faults outside.new ≡ O.read_faults outside.old }
     ensures left { O.left outside.new ≡ O.left outside.old }
     ensures size { OnOk result (session.new.store.engine.size ≡ session.old.store.engine.size) }
+    ensures looks { SpendsLines (members O.Source O.Sink O.Disk) session.old.store.engine.size (place_of lines.old) piece.now session.old outside.old steps.old steps.new (bytes_after result session.new) }
 {
     let mut rest = piece;
     'lines: while let Some((line, after)) = next_line(rest) {
@@ -148,6 +152,7 @@ pub fn end<O: Outside, L: Ledger>(
     ensures reads { O.read_faults outside.new ≡ O.read_faults outside.old }
     ensures left { O.left outside.new ≡ O.left outside.old }
     ensures size { OnOk result (session.new.store.engine.size ≡ session.old.store.engine.size) }
+    ensures looks { SpendsLast (members O.Source O.Sink O.Disk) session.old.store.engine.size (place_of lines.now) session.old outside.old steps.old steps.new (bytes_after result session.new) }
 {
     if lines.held.is_empty() {
         return Ok(());

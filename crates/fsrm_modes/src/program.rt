@@ -4,6 +4,7 @@ ghost use Rattle.std.specs.Prelude.{◌≡◌, ◌⊎◌, ◌≤◌, ◌↔◌, 
 ghost use Rattle.std.specs.Option.{ForSome};
 ghost use Rattle.std.specs.String.{string_bytes};
 ghost use Rattle.fsrm_model.specs.declared.command.Ask.TheVariants.{Quotas};
+ghost use Rattle.fsrm_model.specs.declared.command.Outcome.TheVariants.{Listing};
 ghost use Rattle.fsrm_model.specs.declared.row.Capacity.{Capacity};
 ghost use Rattle.fsrm_model.specs.declared.row.Rows.{Rows};
 ghost use Rattle.fsrm_model.specs.texts.Text.{list_lines};
@@ -21,6 +22,7 @@ ghost use Rattle.program_words.specs.declared.modes.Mode.{Mode};
 ghost use Rattle.program_words.specs.declared.modes.Mode.TheVariants.{Init, Replay, Show};
 ghost use Rattle.fsrm_modes.specs.Answers.{most_taken, Fits, IsDoneOrNoMemory, IsIdleOver, IsQuiet, IsReadyOver, IsTooLong, ReadsNothing, Tells};
 ghost use Rattle.fsrm_modes.specs.Bytes.{TakenMost};
+ghost use Rattle.fsrm_modes.specs.Looks.{FewForScript, FewToShow};
 ghost use Rattle.fsrm_modes.specs.Promises.{Begins, Replays, Shows};
 ghost use Rattle.fsrm_modes.specs.Statuses.{KeepsDisk, KeepsReads, KeepsWrites};
 
@@ -84,6 +86,13 @@ pub fn run<O: Outside, L: Ledger>(
     // Over devices that don't fail all is done, unless memory runs out or the script has more than 2^32 bytes.
     ensures complete { (asked : Mode) (parts : Parts) (script : List ℕ) → mode (map string_bytes words.now) ≡ Some asked → O.reads outside.old ≡ Some parts → O.left outside.old ≡ Some script → IsReadyOver asked parts → length script ≤ longest_script
         → (Rose (O.read_faults outside.old) (O.read_faults outside.new) → ⊥) → (Rose (O.write_faults outside.old) (O.write_faults outside.new) → ⊥) → (Rose (O.disk_faults outside.old) (O.disk_faults outside.new) → ⊥) → IsDoneOrNoMemory result }
+    // ---- looks at nodes: those for opening the store, and those of the script's lines, or of the list; and for each 1 MiB of
+    // records 2 for each node. Other runs take none.
+    ensures looks { (group : ℕ) (K : Capacity) (R : Rows) (script before : List ℕ) → mode (map string_bytes words.now) ≡ Some (Replay group) → O.left outside.old ≡ Some script → (begins : Begins (members O.Source O.Sink O.Disk) K R before outside.old)
+        → FewForScript begins.parts K R script steps.old steps.new }
+    ensures show_looks { (K : Capacity) (R : Rows) (before : List ℕ) → mode (map string_bytes words.now) ≡ Some Show → (begins : Begins (members O.Source O.Sink O.Disk) K R before outside.old) → FewToShow begins.parts R (Listing (Quotas None)) steps.old steps.new }
+    ensures init_looks { (size : Capacity) → mode (map string_bytes words.now) ≡ Some (Init size) → steps.new ≡ steps.old }
+    ensures no_looks { mode (map string_bytes words.now) ≡ None → steps.new ≡ steps.old }
 {
     match read_words(alloc, words) {
         Ok(Mode::Init { size }) => init(alloc, outside, size),

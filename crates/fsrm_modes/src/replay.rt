@@ -1,6 +1,6 @@
 //! Runs a script over the store that is there.
 
-ghost use Rattle.std.specs.Prelude.{◌≡◌, ◌≢◌, ◌≤◌, ◌++◌, [], ℕ, List, Some, true, IfErr, MatchResult};
+ghost use Rattle.std.specs.Prelude.{◌≡◌, ◌≢◌, ◌≤◌, ◌+◌, ◌++◌, length, [], ℕ, List, Some, true, IfErr, MatchResult};
 ghost use Rattle.std.specs.Option.{ForSome};
 ghost use Rattle.fsrm_model.specs.declared.row.Capacity.{Capacity};
 ghost use Rattle.fsrm_model.specs.declared.row.Rows.{Rows};
@@ -9,12 +9,15 @@ ghost use Rattle.fsrm_outside.specs.Runs.{CrashSafe};
 ghost use Rattle.fsrm_outside.specs.Causes.{Rose};
 ghost use Rattle.fsrm_session.specs.Covers.{Covers};
 ghost use Rattle.fsrm_session.specs.Members.{members};
-ghost use Rattle.fsrm_session.specs.Turns.{script_turns, text_of, Turn};
+ghost use Rattle.fsrm_session.specs.Spending.{renewing};
+ghost use Rattle.fsrm_session.specs.Turns.{bytes_of, looks_of, script_turns, text_of, IsWithin, Turn};
 ghost use Rattle.fsrm_session.specs.Underway.{CanFlush, Safe, ShowsSome, Underway};
+ghost use Rattle.fsrm_store.specs.Amortized.{bytes_since, Amortized};
 ghost use Rattle.fsrm_store.specs.Standing.{IsReady};
 ghost use Rattle.fsrm_modes.specs.Answers.{most_taken, HoldsNone, IsQuiet, IsTooLong, TellsStore};
 ghost use Rattle.fsrm_modes.specs.Bytes.{TakenMost};
 ghost use Rattle.fsrm_modes.specs.Ends.{Outcome, TakesScript, Took};
+ghost use Rattle.fsrm_modes.specs.Looks.{left_after, FewForScript};
 ghost use Rattle.fsrm_modes.specs.Promises.{Begins, Replays};
 ghost use Rattle.fsrm_modes.specs.Statuses.{CloseCounts, IsReadEnd, IsSettled, KeepsDisk, KeepsReads, KeepsWrites, ReadCounts, SettleCounts};
 
@@ -51,6 +54,7 @@ pub fn replay<O: Outside, L: Ledger>(
     ensures writes_kept { KeepsWrites result (O.write_faults outside.old) (O.write_faults outside.new) }
     ensures disk_kept { KeepsDisk result (O.disk_faults outside.old) (O.disk_faults outside.new) }
     ensures only { (result ≢ Status.Usage) × (result ≢ Status.AlreadyStore) }
+    ensures looks { (K : Capacity) (R : Rows) (script before : List ℕ) → O.left outside.old ≡ Some script → (begins : Begins (members O.Source O.Sink O.Disk) K R before outside.old) → FewForScript begins.parts K R script steps.old steps.new }
 {
     let store = match Store::recover(alloc, outside, steps) {
         Ok(opened) => opened,
@@ -82,6 +86,8 @@ fn take_script<O: Outside, L: Ledger>(
     ensures ready { MatchResult result (λ _. CanFlush O.reads session.new outside.new) (λ status. IsSettled status → CanFlush O.reads session.new outside.new) }
     ensures only { IfErr result IsReadEnd }
     ensures counts { ReadCounts result (O.read_faults outside.old) (O.read_faults outside.new) (O.write_faults outside.old) (O.write_faults outside.new) (O.disk_faults outside.old) (O.disk_faults outside.new) }
+    ensures looks { (K : Capacity) (R : Rows) (script before : List ℕ) → O.left outside.old ≡ Some script → Underway (members O.Source O.Sink O.Disk) K R [] [] before session.old outside.old → (most : ℕ) → IsWithin most R (script_turns K script)
+        → Amortized most ((steps.old + renewing session.old.store) + looks_of R (script_turns K script)) steps.new (bytes_since session.old.store.journal + bytes_of R (script_turns K script)) (left_after result session.new) }
 {
     match session.begin(outside, group, steps) {
         Ok(()) => read_script(session, outside, alloc, steps),
@@ -106,6 +112,8 @@ fn conclude<O: Outside, L: Ledger>(
     ensures counts { MatchResult ended (λ _. SettleCounts result (O.write_faults outside.old) (O.write_faults outside.new) (O.disk_faults outside.old) (O.disk_faults outside.new)) (λ status. CloseCounts status (O.write_faults outside.old) (O.write_faults outside.new) (O.disk_faults outside.old) (O.disk_faults outside.new)) }
     ensures reads { O.read_faults outside.new ≡ O.read_faults outside.old }
     ensures left { O.left outside.new ≡ O.left outside.old }
+    ensures looks { (K : Capacity) (R : Rows) (turns : List Turn) (before : List ℕ) (start : O) → Took (members O.Source O.Sink O.Disk) ended K R turns before session.old start outside.old → (most looks bytes : ℕ) → IsWithin most R turns
+        → Amortized most looks steps.old bytes (left_after ended session.old) → Amortized most looks steps.new bytes 0 }
 {
     match ended {
         Ok(()) => match session.settle(outside, steps) {
@@ -136,6 +144,9 @@ fn close<O: Outside, L: Ledger>(
     ensures disk_later { O.disk_faults outside.old ≤ O.disk_faults outside.new }
     ensures reads { O.read_faults outside.new ≡ O.read_faults outside.old }
     ensures left { O.left outside.new ≡ O.left outside.old }
+    ensures looks { IsSettled status → (K : Capacity) (R : Rows) (turns : List Turn) (words before : List ℕ) → Underway (members O.Source O.Sink O.Disk) K R turns words before session.old outside.old
+        → Amortized (length session.old.store.engine.rows.nodes) steps.old steps.new (bytes_since session.old.store.journal) 0 }
+    ensures none { (IsSettled status → ⊥) → steps.new ≡ steps.old }
 {
     match status {
         Status::ReadFault | Status::TooLong | Status::NoMemory => {

@@ -4,9 +4,12 @@ ghost use Rattle.std.specs.Prelude.{◌≡◌, ◌≢◌, ◌≤◌, ◌<◌, �
 ghost use Rattle.fsrm_model.specs.values.Limits.{longest_script};
 ghost use Rattle.fsrm_session.specs.Counts.{Counts};
 ghost use Rattle.fsrm_session.specs.Members.{members};
+ghost use Rattle.fsrm_session.specs.Spending.{Spends};
+ghost use Rattle.fsrm_session.specs.Turns.{line_turns, script_turns};
 ghost use Rattle.fsrm_session.specs.Underway.{CanFlush, CanTake};
 ghost use Rattle.fsrm_modes.specs.Bytes.{IsAtEnd, Taken, TakenMost};
 ghost use Rattle.fsrm_modes.specs.Answers.{most_taken};
+ghost use Rattle.fsrm_modes.specs.Looks.{ended_lines, left_after, piece_of, SpendsLines};
 ghost use Rattle.fsrm_modes.specs.Pieces.{ReadsAll, StopsAt, StopsReading, Takes};
 ghost use Rattle.fsrm_modes.specs.Places.{place_of};
 ghost use Rattle.fsrm_modes.specs.Reading.{ReadTo, start};
@@ -37,6 +40,7 @@ pub fn read_script<O: Outside, L: Ledger>(
     ensures stopped { IfErr result (λ status. (status ≢ Status.WriteFault) → (status ≢ Status.DiskFault) → CanFlush O.reads session.new outside.new) }
     ensures only { IfErr result IsReadEnd }
     ensures counts { ReadCounts result (O.read_faults outside.old) (O.read_faults outside.new) (O.write_faults outside.old) (O.write_faults outside.new) (O.disk_faults outside.old) (O.disk_faults outside.new) }
+    ensures looks { (script : List ℕ) → O.left outside.old ≡ Some script → Spends (members O.Source O.Sink O.Disk) (script_turns session.old.store.engine.size script) session.old outside.old steps.old steps.new (left_after result session.new) }
 {
     let mut lines = Lines {
         alloc,
@@ -64,6 +68,7 @@ fn read_lines<O: Outside, L: Ledger>(
     ensures ready { OnOk result (CanTake O.reads session.new outside.new) }
     ensures stopped { IfErr result (λ status. (status ≢ Status.WriteFault) → (status ≢ Status.DiskFault) → CanFlush O.reads session.new outside.new) }
     ensures counts { ReadCounts result (O.read_faults outside.old) (O.read_faults outside.new) (O.write_faults outside.old) (O.write_faults outside.new) (O.disk_faults outside.old) (O.disk_faults outside.new) }
+    ensures looks { (script : List ℕ) → O.left outside.old ≡ Some script → Spends (members O.Source O.Sink O.Disk) (line_turns session.old.store.engine.size 1 (ended_lines script)) session.old outside.old steps.old steps.new (left_after result session.new) }
     ensures size { OnOk result (session.new.store.engine.size ≡ session.old.store.engine.size) }
 {
     let mut buffer = [0u8; PIECE];
@@ -101,6 +106,7 @@ fn pass<O: Outside, L: Ledger>(
     ensures ready { OnOk result (CanTake O.reads session.new outside.new) }
     ensures stopped { IfErr result (λ status. (status ≢ Status.WriteFault) → (status ≢ Status.DiskFault) → CanFlush O.reads session.new outside.new) }
     ensures counts { ReadCounts result (O.read_faults outside.old) (O.read_faults outside.new) (O.write_faults outside.old) (O.write_faults outside.new) (O.disk_faults outside.old) (O.disk_faults outside.new) }
+    ensures looks { (script : List ℕ) → O.left outside.old ≡ Some script → SpendsLines (members O.Source O.Sink O.Disk) session.old.store.engine.size (place_of lines.old) (piece_of result script) session.old outside.old steps.old steps.new (left_after result session.new) }
     ensures size { OnOk result (session.new.store.engine.size ≡ session.old.store.engine.size) }
 {
     let count = next_piece(outside, buffer, taken)?;

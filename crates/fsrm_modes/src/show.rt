@@ -1,8 +1,10 @@
 //! Writes the list of the quotas.
 
-ghost use Rattle.std.specs.Prelude.{◌≡◌, ◌≢◌, ℕ, List, None, OnErr, OnOk, Some};
+ghost use Rattle.std.specs.Prelude.{◌≡◌, ◌≢◌, ◌≤◌, ◌+◌, ℕ, List, None, OnErr, OnOk, Some};
 ghost use Rattle.std.specs.Io.KnownBytes.{append_known};
 ghost use Rattle.std.specs.Option.{ForSome};
+ghost use Rattle.fsrm_model.specs.commands.Cost.{print_cost};
+ghost use Rattle.fsrm_model.specs.declared.command.Outcome.TheVariants.{Listing};
 ghost use Rattle.fsrm_model.specs.declared.row.Capacity.{Capacity};
 ghost use Rattle.fsrm_model.specs.declared.row.Rows.{Rows};
 ghost use Rattle.fsrm_model.specs.declared.command.Ask.TheVariants.{Quotas};
@@ -13,6 +15,7 @@ ghost use Rattle.fsrm_outside.specs.Shown.{ShowsFront};
 ghost use Rattle.line_parts.specs.Writes.{WritesTo};
 ghost use Rattle.fsrm_session.specs.Members.{members};
 ghost use Rattle.fsrm_modes.specs.Answers.{HoldsNone, IsQuiet, TellsStore};
+ghost use Rattle.fsrm_modes.specs.Looks.{FewToShow};
 ghost use Rattle.fsrm_modes.specs.Promises.{Begins, Shows};
 ghost use Rattle.fsrm_modes.specs.Statuses.{KeepsDisk, KeepsReads, KeepsWrites};
 
@@ -36,6 +39,7 @@ fn write_quotas<S: Sink, L: Ledger>(
     ensures whole { OnOk result (S.shown sink.new ≡ append_known (S.shown sink.old) (list_lines engine.now.size engine.now.rows (Quotas None))) }
     ensures front { OnErr result (ShowsFront (S.shown sink.old) (S.shown sink.new) (list_lines engine.now.size engine.now.rows (Quotas None))) }
     ensures device { WritesTo S.Sink result sink.old sink.new }
+    ensures looks { steps.new ≤ steps.old + print_cost engine.now.rows (Listing (Quotas None)) }
 {
     let mut waiting = Vec::new(alloc);
     let mut batch = Batch {
@@ -57,6 +61,7 @@ fn list_quotas<S: Sink, L: Ledger>(
     ensures whole { OnOk result (S.shown sink.new ≡ append_known (S.shown sink.old) (list_lines store.engine.size store.engine.rows (Quotas None))) }
     ensures front { OnErr result (ShowsFront (S.shown sink.old) (S.shown sink.new) (list_lines store.engine.size store.engine.rows (Quotas None))) }
     ensures device { WritesTo S.Sink result sink.old sink.new }
+    ensures looks { steps.new ≤ steps.old + print_cost store.engine.rows (Listing (Quotas None)) }
 {
     write_quotas(alloc, sink, store.engine(), steps)
 }
@@ -76,6 +81,7 @@ pub fn show<O: Outside, L: Ledger>(alloc: Global, outside: &mut O, steps: &mut S
     ensures reads_kept { KeepsReads result (O.read_faults outside.old) (O.read_faults outside.new) }
     ensures writes_kept { KeepsWrites result (O.write_faults outside.old) (O.write_faults outside.new) }
     ensures disk_kept { KeepsDisk result (O.disk_faults outside.old) (O.disk_faults outside.new) }
+    ensures looks { (K : Capacity) (R : Rows) (before : List ℕ) → (begins : Begins (members O.Source O.Sink O.Disk) K R before outside.old) → FewToShow begins.parts R (Listing (Quotas None)) steps.old steps.new }
 {
     let store = match Store::recover(alloc, outside, steps) {
         Ok(opened) => opened,

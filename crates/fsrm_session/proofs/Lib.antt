@@ -3,6 +3,7 @@ pub mod Going
 pub mod Handing
 pub mod Object
 pub mod Results
+pub mod Spending
 pub mod Texts
 pub mod Told
 pub mod Waiting

@@ -1,4 +1,5 @@
 pub mod Members
+pub mod Spending
 pub mod Grows
 pub mod Batch
 pub mod Kept

@@ -1,9 +1,11 @@
 //! A session: a store, and the text that waits.
 
-ghost use Rattle.std.specs.Prelude.{◌≡◌, ◌≤◌, [], OnOk, MatchResult, IsErrOf, Err, true};
+ghost use Rattle.std.specs.Prelude.{◌≡◌, ◌≤◌, ◌+◌, [], OnOk, MatchResult, IsErrOf, Err, true};
 ghost use Rattle.fsrm_session.specs.Counts.{Counts};
 ghost use Rattle.fsrm_session.specs.Members.{members};
+ghost use Rattle.fsrm_session.specs.Spending.{bytes_after, renewing};
 ghost use Rattle.fsrm_session.specs.Underway.{Breaks, Calms, CanFlush, CanTake};
+ghost use Rattle.fsrm_store.specs.Amortized.{bytes_since};
 ghost use Rattle.fsrm_store.specs.Standing.{IsReady};
 
 use crate::stop::Stop;
@@ -59,6 +61,8 @@ impl Session {
         ensures counts { Counts result (O.write_faults outside.old) (O.write_faults outside.new) (O.disk_faults outside.old) (O.disk_faults outside.new) }
         ensures reads { O.read_faults outside.new ≡ O.read_faults outside.old }
         ensures left { O.left outside.new ≡ O.left outside.old }
+        ensures looks { steps.new ≤ steps.old + renewing self.old.store }
+        ensures paid { bytes_after result self.new ≤ bytes_since self.old.store.journal }
     {
         if !self.store.old() {
             return Ok(());
@@ -89,6 +93,9 @@ impl Session {
         ensures counts { Counts result (O.write_faults outside.old) (O.write_faults outside.new) (O.disk_faults outside.old) (O.disk_faults outside.new) }
         ensures reads { O.read_faults outside.new ≡ O.read_faults outside.old }
         ensures left { O.left outside.new ≡ O.left outside.old }
+        // The new image of an old store takes looks. No other is written.
+        ensures looks { steps.new ≤ steps.old + renewing self.old.store }
+        ensures paid { bytes_after result self.new ≤ bytes_since self.old.store.journal }
     {
         self.renew(outside, steps)?;
         match self.store.set_group(self.alloc, group) {

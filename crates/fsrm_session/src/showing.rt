@@ -3,6 +3,7 @@
 ghost use Rattle.std.specs.Prelude.{◌≡◌, ◌<◌, [], length, OnOk, OnErr, MatchResult, IsErrOf, Err};
 ghost use Rattle.fsrm_session.specs.Counts.{Counts};
 ghost use Rattle.fsrm_session.specs.Members.{members};
+ghost use Rattle.fsrm_session.specs.Spending.{bytes_after, Eases};
 ghost use Rattle.fsrm_session.specs.Underway.{Breaks, Calms, CanFlush};
 
 use crate::session::Session;
@@ -50,6 +51,7 @@ impl Session {
         ensures counts { Counts result (O.write_faults outside.old) (O.write_faults outside.new) (O.disk_faults outside.old) (O.disk_faults outside.new) }
         ensures reads { O.read_faults outside.new ≡ O.read_faults outside.old }
         ensures left { O.left outside.new ≡ O.left outside.old }
+        ensures looks { Eases (members O.Source O.Sink O.Disk) self.old outside.old steps.old steps.new (bytes_after result self.new) }
     {
         match self.store.flush(outside, steps) {
             Ok(()) => self.show(outside),
@@ -90,6 +92,7 @@ impl Session {
         ensures counts { Counts result (O.write_faults outside.old) (O.write_faults outside.new) (O.disk_faults outside.old) (O.disk_faults outside.new) }
         ensures reads { O.read_faults outside.new ≡ O.read_faults outside.old }
         ensures left { O.left outside.new ≡ O.left outside.old }
+        ensures looks { Eases (members O.Source O.Sink O.Disk) self.old outside.old steps.old steps.new (bytes_after result self.new) }
     {
         if self.kept.len() < MOST_KEPT {
             return Ok(());

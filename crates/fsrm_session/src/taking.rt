@@ -5,6 +5,7 @@ ghost use Rattle.fsrm_model.specs.store.Valued.{is_command};
 ghost use Rattle.fsrm_model.specs.texts.Text.{is_bare};
 ghost use Rattle.fsrm_session.specs.Counts.{Counts};
 ghost use Rattle.fsrm_session.specs.Members.{members};
+ghost use Rattle.fsrm_session.specs.Spending.{bytes_after, Eases, Spends};
 ghost use Rattle.fsrm_session.specs.Turns.{command_turn, refused_turn};
 ghost use Rattle.fsrm_session.specs.Underway.{Breaks, Calms, CanFlush, CanTake, Goes, Stops};
 
@@ -49,6 +50,7 @@ impl Session {
         ensures counts { Counts result (O.write_faults outside.old) (O.write_faults outside.new) (O.disk_faults outside.old) (O.disk_faults outside.new) }
         ensures reads { O.read_faults outside.new ≡ O.read_faults outside.old }
         ensures left { O.left outside.new ≡ O.left outside.old }
+        ensures looks { Eases (members O.Source O.Sink O.Disk) self.old outside.old steps.old steps.new (bytes_after result self.new) }
     {
         if !is_long(deed) {
             return Ok(());
@@ -74,6 +76,7 @@ impl Session {
         ensures left { O.left outside.new ≡ O.left outside.old }
         ensures size { OnOk result (self.new.store.engine.size ≡ self.old.store.engine.size) }
         ensures full_size { IsErrOf result Stop.NoMemory → self.new.store.engine.size ≡ self.old.store.engine.size }
+        ensures looks { Spends (members O.Source O.Sink O.Disk) (command_turn self.old.store.engine.size number command.now ∷ []) self.old outside.old steps.old steps.new (bytes_after result self.new) }
     {
         match self.store.apply(self.alloc, outside, command, steps) {
             Ok(answer) => self.tell(outside, number, &answer, steps),
@@ -104,6 +107,7 @@ impl Session {
         ensures left { O.left outside.new ≡ O.left outside.old }
         ensures size { OnOk result (self.new.store.engine.size ≡ self.old.store.engine.size) }
         ensures full_size { IsErrOf result Stop.NoMemory → self.new.store.engine.size ≡ self.old.store.engine.size }
+        ensures looks { Spends (members O.Source O.Sink O.Disk) (command_turn self.old.store.engine.size number command.now ∷ []) self.old outside.old steps.old steps.new (bytes_after result self.new) }
     {
         self.prepare(outside, &command.deed, steps)?;
         self.enter(outside, number, command, steps)?;
@@ -127,6 +131,7 @@ impl Session {
         ensures reads { O.read_faults outside.new ≡ O.read_faults outside.old }
         ensures left { O.left outside.new ≡ O.left outside.old }
         ensures size { self.new.store.engine.size ≡ self.old.store.engine.size }
+        ensures looks { Spends (members O.Source O.Sink O.Disk) (refused_turn self.old.store.engine.size number refusal ∷ []) self.old outside.old steps.old steps.new (bytes_after result self.new) }
     {
         let answer = Answer {
             outcome: Outcome::Refused(refusal),

@@ -1,7 +1,9 @@
 //! Replies are told: to the device if all is kept that they tell of, and else to the text that waits.
 
-ghost use Rattle.std.specs.Prelude.{◌≡◌, [], false, OnOk, OnErr, MatchResult, IsErrOf, Err};
+ghost use Rattle.std.specs.Prelude.{◌≡◌, ◌≤◌, ◌+◌, [], false, OnOk, OnErr, MatchResult, IsErrOf, Err};
+ghost use Rattle.fsrm_model.specs.commands.Cost.{acts_cost, print_cost};
 ghost use Rattle.fsrm_model.specs.meaning.Named.{IsNamed};
+ghost use Rattle.fsrm_store.specs.Standing.{KeepsJournal};
 ghost use Rattle.fsrm_session.specs.Counts.{Counts};
 ghost use Rattle.fsrm_session.specs.Members.{members};
 ghost use Rattle.fsrm_session.specs.Turns.{told};
@@ -36,6 +38,8 @@ impl Session {
         ensures reads { O.read_faults outside.new ≡ O.read_faults outside.old }
         ensures left { O.left outside.new ≡ O.left outside.old }
         ensures size { self.new.store.engine.size ≡ self.old.store.engine.size }
+        ensures journal { KeepsJournal self.old.store self.new.store }
+        ensures looks { steps.new ≤ steps.old + (print_cost self.old.store.engine.rows answer.now.outcome + acts_cost self.old.store.engine.rows.nodes self.old.store.engine.waiting) }
     {
         let mut batch = Batch {
             waiting: &mut self.kept,
@@ -72,6 +76,8 @@ impl Session {
         ensures ready { OnOk result (CanTake O.reads self.new outside.new) }
         ensures memory { IsErrOf result Stop.NoMemory → CanFlush O.reads self.new outside.new }
         ensures size { self.new.store.engine.size ≡ self.old.store.engine.size }
+        ensures journal { KeepsJournal self.old.store self.new.store }
+        ensures looks { steps.new ≤ steps.old + (print_cost self.old.store.engine.rows answer.now.outcome + acts_cost self.old.store.engine.rows.nodes self.old.store.engine.waiting) }
     {
         let mark = self.kept.len();
         let mut text = Kept {
@@ -112,6 +118,8 @@ impl Session {
         ensures reads { O.read_faults outside.new ≡ O.read_faults outside.old }
         ensures left { O.left outside.new ≡ O.left outside.old }
         ensures size { self.new.store.engine.size ≡ self.old.store.engine.size }
+        ensures journal { KeepsJournal self.old.store self.new.store }
+        ensures looks { steps.new ≤ steps.old + (print_cost self.old.store.engine.rows answer.now.outcome + acts_cost self.old.store.engine.rows.nodes self.old.store.engine.waiting) }
     {
         if self.store.held() == 0 {
             self.write(outside, number, answer, steps)

@@ -1,5 +1,7 @@
-use Rattle.std.proofs.Common.{refl}
+use Rattle.std.proofs.Common.{refl, ◌∷◌, []}
+use Rattle.fsrm_session.specs.Turns.{line_turn}
 use Rattle.fsrm_session.proofs.Object.{laws_of}
+use Rattle.fsrm_session.proofs.Spending.{spends_nothing}
 use Rattle.fsrm_modes.proofs.Outcomes.{skipped_goes}
 use Rattle.fsrm_modes.proofs.answering.answer.Goals as goal
 
@@ -18,6 +20,7 @@ returns-then-is_skipped_line g c =
       reads = refl;
       left = refl;
       size = refl;
+      looks = spends_nothing (line_turn was.store.engine.size c.args.number c.args.line.now ∷ []) was c.args.outside.now c.args.steps.now;
     }
 
 pub returns : goal.returns

@@ -1,9 +1,11 @@
 use Rattle.std.proofs.Common.{refl, ◌∷◌, []}
 use Rattle.fsrm_model.specs.lines.Line.{read_line}
 use Rattle.fsrm_session.specs.Members.{members}
+use Rattle.fsrm_session.specs.Spending.{bytes_after}
 use Rattle.fsrm_session.specs.Turns.{command_turn, line_turn, refused_turn}
 use Rattle.fsrm_modes.proofs.Alike.{alike_result}
 use Rattle.fsrm_session.proofs.Object.{laws_of}
+use Rattle.fsrm_session.proofs.Spending.{spends_alike, spends_nothing}
 use Rattle.fsrm_modes.proofs.Outcomes.{always_ok, was_read, was_skipped, was_refused, command_alike, refusal_alike, skipped_goes, full_stops, bare_refusal}
 use Rattle.fsrm_modes.proofs.answering.answer_words.Goals as goal
 
@@ -38,6 +40,8 @@ returns-in-Ok-Some g c =
       reads = done.reads;
       left = done.left;
       size = done.size;
+      looks = spends_alike (command_turn size n command ∷ []) (line_turn size n line ∷ []) was c.args.outside.now c.args.steps.now c.take_read.new.steps (bytes_after c.take_read.result c.take_read.new.session)
+          (command_alike size n line text command c.without_cr.ensures (was_read (read_line text) c.in-Ok-Some.field-0 command c.in-Ok-Some.ensures.read c.in-Ok-Some.field-0-is)) done.looks;
     }
 
 pub returns-in-Ok-None : goal.returns-in-Ok-None
@@ -53,6 +57,7 @@ returns-in-Ok-None g c =
       reads = refl;
       left = refl;
       size = refl;
+      looks = spends_nothing (line_turn was.store.engine.size c.args.number c.args.line.now ∷ []) was c.args.outside.now c.args.steps.now;
     }
 
 pub returns-in-Err-Refused : goal.returns-in-Err-Refused
@@ -73,6 +78,8 @@ returns-in-Err-Refused g c =
       reads = done.reads;
       left = done.left;
       size = always_ok c.refuse.result done.size;
+      looks = spends_alike (refused_turn size n refusal ∷ []) (line_turn size n line ∷ []) was c.args.outside.now c.args.steps.now c.refuse.new.steps (bytes_after c.refuse.result c.refuse.new.self)
+          (refusal_alike size n line text refusal c.without_cr.ensures (was_refused (read_line text) c.in-Err-Refused.field-0 refusal c.in-Err-Refused.ensures.fault c.in-Err-Refused.field-0-is)) done.looks;
     }
 
 pub returns-in-Err-NoMemory : goal.returns-in-Err-NoMemory
@@ -86,4 +93,5 @@ returns-in-Err-NoMemory g c =
       reads = refl;
       left = refl;
       size = tt;
+      looks = spends_nothing (line_turn was.store.engine.size c.args.number c.args.line.now ∷ []) was c.args.outside.now c.args.steps.now;
     }

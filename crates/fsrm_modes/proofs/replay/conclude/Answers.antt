@@ -3,13 +3,17 @@ use Rattle.std.specs.Prelude.{Result, Err, Ok}
 use Rattle.fsrm_session.specs.Underway.{Underway}
 use Rattle.fsrm_session.proofs.Object.{laws_of}
 use Rattle.fsrm_outside.specs.Causes.{Rose}
+use Rattle.fsrm_store.specs.Amortized.{bytes_since, Amortized}
+use Rattle.fsrm_session.specs.Spending.{bytes_after}
 use Rattle.fsrm_session.specs.Members.{members}
 use Rattle.fsrm_modes.specs.Ends.{Ended, Took}
+use Rattle.fsrm_modes.specs.Looks.{left_after}
 use Rattle.fsrm_modes.specs.Statuses.{CloseCounts, IsReadEnd, IsSettled}
 use Rattle.fsrm_modes.specs.declared.status.Status.{Status}
 use Rattle.fsrm_session.specs.declared.stop.Stop.{Stop}
 use Rattle.fsrm_modes.proofs.Ends.{broken_outcome, close_counts, done_outcome, ended_outcome, if_err, of_err, settle_counts, took_err, took_ok}
 use Rattle.fsrm_modes.proofs.ReplayEnds.{match_err, match_ok}
+use Rattle.fsrm_modes.proofs.Spent.{done_spends, ended_spends}
 use Rattle.fsrm_modes.proofs.replay.conclude.Goals as goal
 
 pub returns-in-Ok-settle-clause-concludes : goal.returns-in-Ok-settle-clause-concludes
@@ -45,3 +49,23 @@ returns-in-Err-clause-counts g c =
     let M = members g.O.Source g.O.Sink g.O.Disk in
     match_err c.args.ended c.in-Err.status _ _ c.in-Err.is
     (close_counts c.in-Err.status _ _ _ _ c.close.ensures.write_later c.close.ensures.disk_later (λ not. (ap M.write_faults (c.close.ensures.same not), ap M.disk_faults (c.close.ensures.same not))))
+
+-- ---- what it takes
+pub returns-in-Ok-settle-clause-looks : goal.returns-in-Ok-settle-clause-looks
+returns-in-Ok-settle-clause-looks g c K R turns before start took most looks bytes within a =
+    let was = c.args.session.now in
+    let t = took_ok c.args.ended _ K R turns before was start c.args.outside.now c.in-Ok.is took in
+    done_spends c.args.ended _ K R turns before was c.args.outside.now most looks c.args.steps.now c.settle.new.steps bytes (bytes_since c.settle.new.self.store.journal) c.in-Ok.is t.ended_is within a c.in-Ok-settle.ensures.looks
+
+pub returns-in-Err-settle-clause-looks : goal.returns-in-Err-settle-clause-looks
+returns-in-Err-settle-clause-looks g c K R turns before start took most looks bytes within a =
+    let was = c.args.session.now in
+    let t = took_ok c.args.ended _ K R turns before was start c.args.outside.now c.in-Ok.is took in
+    done_spends c.args.ended _ K R turns before was c.args.outside.now most looks c.args.steps.now c.settle.new.steps bytes (bytes_after {T = Unit {0}} (Err c.in-Err-settle.stop) c.settle.new.self) c.in-Ok.is t.ended_is within a c.in-Err-settle.ensures.looks
+
+pub returns-in-Err-clause-looks : goal.returns-in-Err-clause-looks
+returns-in-Err-clause-looks g c K R turns before start took most looks bytes within a =
+    let was = c.args.session.now in
+    let t = took_err c.args.ended c.in-Err.status K R turns before was start c.args.outside.now c.in-Err.is took in
+    ended_spends (members g.O.Source g.O.Sink g.O.Disk) (Unit {0}) c.in-Err.status K R turns before was c.args.outside.now most looks c.args.steps.now c.close.new.steps bytes t.ended_is within
+    (subst (λ (r : Result (Unit {0}) Status). Amortized most looks c.args.steps.now bytes (left_after r was)) c.in-Err.is a) c.close.ensures.looks c.close.ensures.none

@@ -1,12 +1,16 @@
-use Rattle.std.proofs.Common.{◌∙◌, ap, subst, sym}
+use Rattle.std.proofs.Common.{◌+◌, ◌∙◌, ap, subst, sym}
 use Rattle.fsrm_outside.specs.Members.{Members}
 use Rattle.fsrm_outside.proofs.OutsideLaws.{Laws}
+use Rattle.fsrm_store.specs.Amortized.{bytes_since, Amortized}
 use Rattle.fsrm_store.specs.Standing.{IsReady}
 use Rattle.fsrm_store.specs.declared.store.Store.{Store}
 use Rattle.fsrm_session.specs.Members.{members}
-use Rattle.fsrm_session.specs.Turns.{script_turns}
+use Rattle.fsrm_session.specs.Spending.{renewing}
+use Rattle.fsrm_session.specs.Turns.{bytes_of, looks_of, script_turns}
 use Rattle.fsrm_session.proofs.Object.{laws_of}
+use Rattle.fsrm_modes.specs.Looks.{left_after}
 use Rattle.fsrm_modes.proofs.ReplayEnds.{fault_quiet, fault_replays, fault_taken, run_long, run_replays, run_taken}
+use Rattle.fsrm_modes.proofs.Spent.{fault_few, run_few}
 use Rattle.fsrm_modes.proofs.WholeRuns.{begins, early_safe, fault_not, fault_run, fault_show, opened_kept, opened_not, refused_tells, run_counts, run_not, run_tells, since_safe}
 use Rattle.fsrm_modes.proofs.replay.replay.Given as given
 use Rattle.fsrm_modes.proofs.replay.replay.Goals as goal
@@ -144,3 +148,24 @@ returns-clause-long g c script left =
 
 pub returns-in-Err-clause-long : goal.returns-in-Err-clause-long
 returns-in-Err-clause-long g c script left long = absurd ((fault_show c.recover.result c.in-Err.fault c.from.result c.in-Err.is c.recover.ensures.only c.from.ensures).2 long)
+
+-- ---- what it takes
+pub returns-in-Err-clause-looks : goal.returns-in-Err-clause-looks
+returns-in-Err-clause-looks g c K R script before left b = fault_few b.parts K R script c.args.steps.now c.recover.new.steps (c.recover.ensures.looks b.parts b.reads)
+
+pub returns-clause-looks : goal.returns-clause-looks
+returns-clause-looks g c K R script before left b =
+    let first = c.args.outside.now in
+    let mid = c.recover.new.disk in
+    let store = c.in-Ok.opened in
+    let a = c.new-session.result in
+    let turns = script_turns K script in
+    let ended = c.take_script-ended in
+    let source = g.met.O.Outside.disk_keeps_source first mid c.recover.ensures.by in
+    let u = begins K R before store a first mid (laws g) c.recover.ensures.by b (c.in-Ok.ensures.state b.parts b.reads) (c.in-Ok.ensures.stands b.parts b.reads) c.new-session.ensures.store c.new-session.ensures.empty in
+    let took = ended.ensures.takes K R script before (source.same_left ∙ left) u in
+    run_few b.parts K R script store c.args.steps.now c.recover.new.steps c.conclude.new.steps (c.recover.ensures.looks b.parts b.reads) b.holds (c.in-Ok.ensures.state b.parts b.reads) (c.in-Ok.ensures.old b.parts b.reads) (c.in-Ok.ensures.tail b.parts b.reads)
+    (λ most within.
+    c.conclude.ensures.looks K R turns before mid took.took most ((c.recover.new.steps + renewing store) + looks_of R turns) (bytes_since store.journal + bytes_of R turns) within
+    (subst (λ (s : Store). Amortized most ((c.recover.new.steps + renewing s) + looks_of R turns) ended.new.steps (bytes_since s.journal + bytes_of R turns) (left_after ended.result ended.new.session)) c.new-session.ensures.store
+    (ended.ensures.looks K R script before (source.same_left ∙ left) u most within)))

@@ -1,10 +1,15 @@
-use Rattle.std.proofs.Common.{◌∙◌, ap}
+use Rattle.std.proofs.Common.{◌+◌, ◌∙◌, ap}
 use Rattle.std.specs.Prelude.{Err}
+use Rattle.fsrm_store.specs.Amortized.{bytes_since}
+use Rattle.fsrm_session.specs.Spending.{renewing}
+use Rattle.fsrm_session.specs.Turns.{bytes_of, looks_of, script_turns}
 use Rattle.fsrm_session.specs.declared.stop.Stop.{Stop}
 use Rattle.fsrm_session.specs.Members.{members}
 use Rattle.fsrm_session.proofs.Object.{laws_of}
+use Rattle.fsrm_modes.specs.Looks.{left_after}
 use Rattle.fsrm_modes.proofs.Ends.{begin_takes, read_takes}
 use Rattle.fsrm_modes.proofs.ReplayEnds.{begin_ready, moved_counts, moved_taken, read_long, read_ready, stop_counts, stop_end, stop_not_long, stop_taken}
+use Rattle.fsrm_modes.proofs.Spent.{begun_spends, stop_spent}
 use Rattle.fsrm_modes.proofs.replay.take_script.Goals as goal
 
 pub returns-in-Ok-clause-takes : goal.returns-in-Ok-clause-takes
@@ -46,3 +51,16 @@ returns-in-Ok-clause-long g c script left =
 
 pub returns-in-Err-clause-long : goal.returns-in-Err-clause-long
 returns-in-Err-clause-long g c script left long = absurd (stop_not_long c.in-Err.stop c.from.result c.from.ensures long)
+
+-- ---- what it takes
+pub returns-in-Ok-clause-looks : goal.returns-in-Ok-clause-looks
+returns-in-Ok-clause-looks g c K R script before left u most within =
+    begun_spends K R script before c.args.session.now c.begin.new.self c.args.outside.now c.begin.new.outside c.args.steps.now c.begin.new.steps c.read_script.new.steps (left_after c.read_script.result c.read_script.new.session) most
+    c.in-Ok.ensures.runs u c.begin.ensures.looks c.in-Ok.ensures.paid (c.read_script.ensures.looks script (c.begin.ensures.left ∙ left)) within
+
+pub returns-in-Err-clause-looks : goal.returns-in-Err-clause-looks
+returns-in-Err-clause-looks g c K R script before left u most within =
+    let store = c.args.session.now.store in
+    let turns = script_turns K script in
+    stop_spent (Unit {0}) (Unit {0}) c.in-Err.stop c.from.result c.begin.new.self (c.args.steps.now + renewing store) c.begin.new.steps (bytes_since store.journal) (looks_of R turns) (bytes_of R turns) most
+    c.from.ensures c.begin.ensures.looks c.in-Err.ensures.paid

@@ -1,16 +1,21 @@
 use Rattle.std.proofs.Common.{List, ℕ, sym, ap, subst, ◌∙◌, take, arith}
-use Rattle.std.specs.Prelude.{Option, Err}
+use Rattle.std.specs.Prelude.{Option, Err, Ok}
 use Rattle.std.proofs.lemmas.Result.{err_from_is_err_and}
 use Rattle.fsrm_session.proofs.Object.{laws_of}
+use Rattle.fsrm_store.specs.Amortized.{bytes_since}
 use Rattle.fsrm_store.specs.declared.store.Store.{Store}
+use Rattle.fsrm_session.specs.Spending.{bytes_after}
 use Rattle.fsrm_modes.specs.Bytes.{IsAtEnd}
+use Rattle.fsrm_modes.specs.Looks.{left_after, piece_of}
 use Rattle.fsrm_modes.specs.Places.{place_of}
+use Rattle.fsrm_modes.specs.Statuses.{of_stop}
 use Rattle.fsrm_modes.specs.declared.status.Status.{Status}
 use Rattle.fsrm_modes.proofs.Feeding.{fed_breaks}
 use Rattle.fsrm_modes.proofs.MostTaken.{most_lost, most_stopped}
 use Rattle.fsrm_modes.proofs.Passed.{counts_read, counts_stop, not_too_long, stays_ready}
 use Rattle.fsrm_modes.proofs.Passing.{gives_up, halts_reading, piece_length, stops_reading, takes_piece}
 use Rattle.fsrm_modes.proofs.ReadCalms.{read_flush, read_take}
+use Rattle.fsrm_modes.proofs.Spending.{leaves_less, left_most, left_same, left_stop, pass_spends, spends_none, stop_spends}
 use Rattle.fsrm_modes.proofs.script.pass.Goals as goal
 
 pub feed-requires-clause-number : goal.feed-requires-clause-number
@@ -45,6 +50,8 @@ returns-in_err-count g c =
       stopped = rw (p.1, p.2) (λ write disk. read_flush was first last laws read.by c.requires.ready.flush);
       counts = rw (p.1, p.2) (counts_read status (left first) (left last) _ _ _ _ _ _ read.lost read.later (λ is. read.cause (ap (λ (s : Status). Err s) is)) read.kept (laws.read_keeps_sink first last read.by).same_faults (laws.read_keeps_disk first last read.by).same_faults);
       size = rw p.1 tt;
+      looks = λ script told. leaves_less was.store.engine.size (place_of c.args.lines.now) (piece_of c.from_residual.result script) was first c.args.steps.now c.args.steps.now (bytes_since was.store.journal) (left_after c.from_residual.result was) (left_most c.from_residual.result was)
+          (spends_none was.store.engine.size (place_of c.args.lines.now) (piece_of c.from_residual.result script) was first c.args.steps.now);
     }
 
 -- ---- the session stopped as it took lines
@@ -77,6 +84,8 @@ returns-in_err-feed g c =
       stopped = rw (p.1, p.2) (stays_ready stop (λ is. end.memory (ap Err is)));
       counts = rw (p.1, p.2) (counts_stop stop _ _ _ _ _ _ _ _ (end.reads ∙ read.kept) (laws.read_keeps_sink first mid read.by).same_faults (laws.read_keeps_disk first mid read.by).same_faults end.counts);
       size = rw p.1 tt;
+      looks = rw (p.1, p.2)
+          (λ script told. stop_spends size a bytes script was first mid c.args.steps.now c.feed.new.steps (bytes_after {T = Unit {0}} (Err stop) now) (left_after {T = ℕ} (Err (of_stop stop)) now) laws read.by read.bytes told (left_stop (Unit {0}) ℕ stop now) end.looks);
     }
 
 -- ---- the session stopped as it showed what waited
@@ -114,6 +123,9 @@ returns-in_err-pause g c =
       stopped = rw (p.1, p.2) (stays_ready stop (λ is. absurd (end.memory (ap Err is))));
       counts = rw (p.1, p.2) (counts_stop stop _ _ _ _ _ _ _ _ (end.reads ∙ fed.reads ∙ read.kept) (fed.counts.0 ∙ (laws.read_keeps_sink first mid read.by).same_faults) (fed.counts.1 ∙ (laws.read_keeps_disk first mid read.by).same_faults) end.counts);
       size = rw p.1 tt;
+      looks = rw (p.1, p.2)
+          (λ script told. stop_spends size a bytes script was first mid c.args.steps.now c.feed.new.steps (bytes_since c.feed.new.session.store.journal) (left_after {T = ℕ} (Err (of_stop stop)) now) laws read.by read.bytes told
+          (left_same {T = ℕ} (Err (of_stop stop)) c.feed.new.session now (ap (λ (s : Store). s.journal) end.store)) fed.looks);
     }
 
 -- ---- all was done
@@ -151,4 +163,6 @@ returns g c =
         end.counts.1 ∙ fed.counts.1 ∙ (laws.read_keeps_disk first mid read.by).same_faults,
       );
       size = ap (λ (s : Store). s.engine.size) end.store ∙ fed.size;
+      looks = λ script told. leaves_less size a (take count script) was first c.args.steps.now c.feed.new.steps (bytes_since c.feed.new.session.store.journal) (bytes_since c.pause.new.self.store.journal) (left_same (Ok count) c.feed.new.session c.pause.new.self (ap (λ (s : Store). s.journal) end.store))
+          (pass_spends size a bytes script count was first mid c.args.steps.now c.feed.new.steps (bytes_since c.feed.new.session.store.journal) laws read.by long read.bytes told fed.looks);
     }

@@ -1,7 +1,9 @@
-use Rattle.std.proofs.Common.{◌≡◌, ◌-◌, ◌+◌, ◌≤◌, ◌<◌, length}
+use Rattle.std.proofs.Common.{◌≡◌, ◌-◌, ◌+◌, ◌≤◌, ◌<◌, length, List, ℕ, take, Some}
 use Rattle.fsrm_model.specs.values.Limits.{longest_script}
 use Rattle.fsrm_session.specs.Members.{members}
 use Rattle.fsrm_session.specs.Underway.{CanTake}
+use Rattle.fsrm_store.specs.Amortized.{bytes_since}
+use Rattle.fsrm_modes.specs.Looks.{SpendsLines}
 use Rattle.fsrm_modes.specs.Pieces.{Takes}
 use Rattle.fsrm_modes.specs.Places.{place_of}
 use Rattle.fsrm_modes.specs.Reading.{start}
@@ -15,6 +17,7 @@ invariant-pieces g l =
     let disk = g.O.Disk in
     record {
       takes : Takes (members source sink disk) l.fn.session.store.engine.size start (place_of l.lines) l.taken l.fn.session l.session l.fn.outside l.outside;
+      spent : (script : List ℕ) → source.left l.fn.outside ≡ Some script → SpendsLines (members source sink disk) l.fn.session.store.engine.size start (take l.taken script) l.fn.session l.fn.outside l.fn.steps l.steps (bytes_since l.session.store.journal);
       within : l.taken ≤ longest_script;
       number : l.lines.number ≤ l.taken + 1;
       ready : CanTake disk.reads l.session l.outside;

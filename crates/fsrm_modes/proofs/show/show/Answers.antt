@@ -6,11 +6,13 @@ use Rattle.fsrm_session.proofs.Object.{laws_of}
 use Rattle.fsrm_modes.specs.declared.status.Status.TheVariants.{NoMemory, WriteFault}
 use Rattle.fsrm_modes.proofs.ReplayEnds.{fault_quiet}
 use Rattle.fsrm_modes.proofs.Showing.{done_not, fault_shows, front_shown, full_kept, full_not, list_shown, quiet_beside, write_not, write_rose}
+use Rattle.fsrm_modes.proofs.Spent.{fault_shown, list_few}
 use Rattle.fsrm_modes.proofs.WholeRuns.{fault_run, fault_show, opened_kept, refused_tells}
 use Rattle.fsrm_modes.proofs.show.show.Given as given
 use Rattle.fsrm_modes.proofs.show.show.Goals as goal
 use Rattle.fsrm_model.specs.texts.Text.{list_lines}
 use Rattle.fsrm_model.specs.declared.command.Ask.TheVariants.{Quotas}
+use Rattle.fsrm_model.specs.declared.command.Outcome.TheVariants.{Listing}
 use Rattle.std.specs.Prelude.{None}
 
 abbrev object : (g : given.Over) → Members g.row.O.Denot
@@ -422,3 +424,19 @@ returns-in-Err-NoMemory-clause-write_fault g c is = absurd (full_not.4 is)
 
 pub returns-in-Err-NoMemory-clause-disk_fault : goal.returns-in-Err-NoMemory-clause-disk_fault
 returns-in-Err-NoMemory-clause-disk_fault g c is = absurd (full_not.5 is)
+
+-- ---- what it takes
+pub returns-in-Err-clause-looks : goal.returns-in-Err-clause-looks
+returns-in-Err-clause-looks g c K R before b = fault_shown b.parts R (Listing (Quotas None)) c.args.steps.now c.recover.new.steps (c.recover.ensures.looks b.parts b.reads)
+
+pub returns-in-Ok-list_quotas-clause-looks : goal.returns-in-Ok-list_quotas-clause-looks
+returns-in-Ok-list_quotas-clause-looks g c K R before b =
+    list_few b.parts K R c.in-Ok.opened (Listing (Quotas None)) c.args.steps.now c.recover.new.steps c.list_quotas.new.steps (c.recover.ensures.looks b.parts b.reads) b.holds (c.in-Ok.ensures.state b.parts b.reads) c.list_quotas.ensures.looks
+
+pub returns-in-Err-WriteFault-clause-looks : goal.returns-in-Err-WriteFault-clause-looks
+returns-in-Err-WriteFault-clause-looks g c K R before b =
+    list_few b.parts K R c.in-Ok.opened (Listing (Quotas None)) c.args.steps.now c.recover.new.steps c.list_quotas.new.steps (c.recover.ensures.looks b.parts b.reads) b.holds (c.in-Ok.ensures.state b.parts b.reads) c.list_quotas.ensures.looks
+
+pub returns-in-Err-NoMemory-clause-looks : goal.returns-in-Err-NoMemory-clause-looks
+returns-in-Err-NoMemory-clause-looks g c K R before b =
+    list_few b.parts K R c.in-Ok.opened (Listing (Quotas None)) c.args.steps.now c.recover.new.steps c.list_quotas.new.steps (c.recover.ensures.looks b.parts b.reads) b.holds (c.in-Ok.ensures.state b.parts b.reads) c.list_quotas.ensures.looks

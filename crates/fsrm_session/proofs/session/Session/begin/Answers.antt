@@ -1,9 +1,10 @@
-use Rattle.std.proofs.Common.{◌≡◌, Err, rules, refl, ◌∙◌, ap}
+use Rattle.std.proofs.Common.{◌≡◌, ◌≤◌, Err, rules, refl, ◌∙◌, ap, arith}
 use Rattle.fsrm_engine.specs.Machine.{Machine}
 use Rattle.fsrm_session.specs.declared.session.Session.{Session}
 use Rattle.fsrm_session.proofs.Going.{alike_calms, calms_full, calms_then, ready_alike}
 use Rattle.fsrm_session.proofs.Object.{laws_of}
 use Rattle.fsrm_session.proofs.Results.{breaks_passed}
+use Rattle.fsrm_session.proofs.Spending.{after_fault, since_alike}
 use Rattle.fsrm_session.proofs.session.Session.begin.Goals as goal
 
 pub returns-in-Ok-clause-runs : goal.returns-in-Ok-clause-runs
@@ -40,3 +41,18 @@ pub returns-in_err-renew-clause-runs : goal.returns-in_err-renew-clause-runs
 returns-in_err-renew-clause-runs g c =
     let fault : c.from_residual.result ≡ Err c.in_err-renew.field-0.0 = search rules in
     breaks_passed c.from_residual.result c.in_err-renew.field-0.0 c.args.self.now c.renew.new.self c.args.outside.now c.renew.new.outside fault c.in_err-renew.ensures.runs
+
+pub returns-in-Ok-clause-paid : goal.returns-in-Ok-clause-paid
+returns-in-Ok-clause-paid g c =
+    let alike = c.set_group.ensures.stands in
+    omega (arith, since_alike c.renew.new.self.store.journal c.set_group.new.self.journal alike.end alike.image_end c.set_group.ensures.none, c.in_ok-renew.ensures.paid)
+
+pub returns-in-Err-clause-paid : goal.returns-in-Err-clause-paid
+returns-in-Err-clause-paid g c =
+    let alike = c.set_group.ensures.stands in
+    omega (arith, since_alike c.renew.new.self.store.journal c.set_group.new.self.journal alike.end alike.image_end c.set_group.ensures.none, c.in_ok-renew.ensures.paid)
+
+pub returns-in_err-renew-clause-paid : goal.returns-in_err-renew-clause-paid
+returns-in_err-renew-clause-paid g c =
+    let fault : c.from_residual.result ≡ Err c.in_err-renew.field-0.0 = search rules in
+    omega (arith, after_fault c.from_residual.result c.in_err-renew.field-0.0 c.renew.new.self fault, c.in_err-renew.ensures.paid)

@@ -1,11 +1,15 @@
-use Rattle.std.proofs.Common.{[], ◌∷◌, refl, sym, ◌∙◌, ap}
+use Rattle.std.proofs.Common.{◌≤◌, ◌+◌, [], ◌∷◌, arith, refl, sym, ◌∙◌, ap}
 use Rattle.std.specs.Prelude.{Err}
+use Rattle.fsrm_model.specs.commands.Cost.{acts_cost, print_cost}
 use Rattle.fsrm_store.specs.declared.fault.StoreFault.{StoreFault}
+use Rattle.fsrm_store.specs.Amortized.{bytes_left, bytes_since}
 use Rattle.fsrm_session.specs.Turns.{command_turn, told}
 use Rattle.fsrm_session.specs.declared.session.Session.{Session}
+use Rattle.fsrm_session.specs.Spending.{bytes_after}
 use Rattle.fsrm_session.proofs.Entering.{entered_result, full_stops, only_disk, said_told, store_enters, store_stops}
 use Rattle.fsrm_session.proofs.Handing.{calm_step}
 use Rattle.fsrm_session.proofs.Object.{laws_of}
+use Rattle.fsrm_session.proofs.Spending.{after_same, spends_command, told_cost}
 use Rattle.fsrm_session.proofs.session.Session.enter.Goals as goal
 
 pub tell-requires-clause-calm : goal.tell-requires-clause-calm
@@ -46,3 +50,27 @@ pub returns-in_default-clause-counts : goal.returns-in_default-clause-counts
 returns-in_default-clause-counts g c =
     let is = only_disk _ c.in-Err.fault refl c.in-Err.ensures.only c.in_default.not-NoMemory in
     ((g.met.O.Outside.disk_keeps_sink c.args.outside.now c.apply.new.disk c.apply.ensures.by).same_faults, record { later = c.apply.ensures.later; rose = c.in-Err.ensures.failed is })
+
+-- what it takes
+pub returns-in-Ok-clause-looks : goal.returns-in-Ok-clause-looks
+returns-in-Ok-clause-looks g c =
+    let was = c.args.self.now in
+    let e = was.store.engine in
+    let now = c.apply.new.self.engine in
+    let outcome = c.in-Ok.answer.outcome in
+    let command = c.args.command.now in
+    let took = c.in-Ok.ensures.ok in
+    let told = print_cost now.rows outcome + acts_cost now.rows.nodes now.waiting in
+    spends_command c.args.number command was c.args.outside.now c.args.steps.now c.apply.new.steps told c.tell.new.steps (bytes_since c.apply.new.self.journal) (bytes_after c.tell.result c.tell.new.self) c.in-Ok.ensures.amortized
+    (told_cost e.size e.rows now.rows now.waiting outcome command took.rows_are took.acts_are took.outcome_is) c.tell.ensures.looks (after_same c.tell.result c.tell.new.self c.apply.new.self.journal c.tell.ensures.journal.journal)
+
+pub returns-in-NoMemory-clause-looks : goal.returns-in-NoMemory-clause-looks
+returns-in-NoMemory-clause-looks g c =
+    let now = c.apply.new.self in
+    let full = c.in-Err.is ∙ ap (λ (f : StoreFault). Err f) c.in-NoMemory.is in
+    spends_command c.args.number c.args.command.now c.args.self.now c.args.outside.now c.args.steps.now c.apply.new.steps 0 c.apply.new.steps (bytes_left c.apply.result now) (bytes_since now.journal) c.apply.ensures.amortized (omega arith) (omega arith)
+    (omega (arith, ap (λ r. bytes_left r now) full))
+
+pub returns-in_default-clause-looks : goal.returns-in_default-clause-looks
+returns-in_default-clause-looks g c =
+    spends_command c.args.number c.args.command.now c.args.self.now c.args.outside.now c.args.steps.now c.apply.new.steps 0 c.apply.new.steps (bytes_left c.apply.result c.apply.new.self) 0 c.apply.ensures.amortized (omega arith) (omega arith) (omega arith)
