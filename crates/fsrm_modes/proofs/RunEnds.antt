@@ -66,6 +66,7 @@ pub idle_safe : {O : Type 0} (M : Members O) (Covers : ℕ → Parts → Type 0)
 idle_safe M Covers start now told = record {
   first = start + 1;
   from = omega arith;
+  soon = λ t told. inl (omega arith);
   before = λ t m i at from below to left. subst (λ (k : ℕ). M.images now k i) (same_moment (M.disk_clock now) start t m told at from to) left;
   unshown = λ t m at from below to. ap (M.shown_at now) (same_moment (M.disk_clock now) start t m told at from to);
   at_first = λ t i at to left. let same : start ≡ t = some_is (sym told ∙ at) in absurd (omega arith);

@@ -1,5 +1,5 @@
 -- A run that begins with a sync is safe if the moments since are.
-use Rattle.std.proofs.Common.{◌≡◌, ⊎_elim, ℕ, ◌+◌, ◌≤◌, Some, List, length, sym, ◌∙◌, ap, subst, arith}
+use Rattle.std.proofs.Common.{◌≡◌, ◌⊎◌, ⊎_elim, inl, inr, ℕ, ◌+◌, ◌≤◌, Some, List, length, sym, ◌∙◌, ap, subst, arith}
 use Rattle.std.specs.Prelude.{max}
 use Rattle.std.proofs.lemmas.Bool.{cases_lt}
 use Rattle.fsrm_outside.specs.Changes.{Same, Through}
@@ -24,6 +24,7 @@ synced_by {M = M} start old now laws ran s never quiet same disk_told sink_told 
       first = max s.since start;
       present = present;
       from = omega arith;
+      soon = ⊎_elim (λ few. omega (arith, few)) (λ few. omega (arith, few, reached)) (s.soon start present disk_told d.1);
       come = omega (arith, reached, d.2);
       disk_told = d.1;
       sink_told = sink_now;
@@ -46,6 +47,7 @@ safe_early {M = M} Covers p start old now laws ran s quiet same reads covers dis
     record {
       first = max s.since start;
       from = omega arith;
+      soon = λ t told. ⊎_elim (λ few. inl (omega (arith, few))) (λ few. inr few) (s.soon start t disk_told told);
       before = λ t m i told from below to left.
           let was = quiet start t m i disk_told told from to left in
           subst (M.images old start) (sym was.2) was.1;
@@ -67,6 +69,7 @@ safe_since {M = M} Covers p start old now new laws h reads covers e =
     record {
       first = h.first;
       from = h.from;
+      soon = λ t told. inl h.soon;
       before = λ t m i told from below to left. h.before m i from below (e.images_past h.present m i h.disk_told (omega (arith, below, h.come)) left);
       unshown = λ t m told from below to. e.shown_past h.present m h.sink_told (omega (arith, below, h.come)) ∙ h.unshown m from (omega (arith, below, h.come));
       at_first = λ t i told to left. h.since h.first i (omega arith) h.come (e.images_past h.present h.first i h.disk_told h.come left);
