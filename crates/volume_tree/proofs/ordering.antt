@@ -13,6 +13,7 @@ pub mod Narrowed
 pub mod OrderLaws
 pub mod OwnEntries
 pub mod Pairs
+pub mod Past
 pub mod Places
 pub mod Runs
 pub mod Segments

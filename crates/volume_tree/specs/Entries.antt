@@ -63,3 +63,11 @@ pub record IsNotLower (order : Sequence) (folder place : ℕ) : Type 0 where
 pub record IsFirst (order : Sequence) (folder place : ℕ) : Type 0 where
   pub lower : 0 < place → IsLower order folder (place - 1)
   pub other : place < length (entries_of order.runs) → IsNotLower order folder place
+
+-- the entry at a place has a greater key than this one
+pub record IsPast (order : Sequence) (key place : ℕ) : Type 0 where
+  pub entry : Entry
+  pub at : slice_get (entries_of order.runs) place ≡ Some entry.node
+  pub listed : Contains order.entries entry
+  pub small : entry.prefix < 2 ^ 64
+  pub past : key < place_key entry.parent entry.prefix

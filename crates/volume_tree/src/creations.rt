@@ -12,7 +12,7 @@ ghost use Rattle.volume_tree.specs.Volume.{new_fault, with_node};
 use crate::answer::TreeFault;
 use crate::entries::Entry;
 use crate::finger::Finger;
-use crate::order::search;
+use crate::new_names::search_new;
 use crate::slots;
 use crate::tree::Tree;
 use crate::vacancy::new_place;
@@ -124,7 +124,7 @@ impl Tree {
         ensures looks { steps.new ≤ steps.old + 21 }
     {
         let size = self.size;
-        let place = match search(&self.slots, &self.order, folder, name, steps) {
+        let place = match search_new(&self.slots, &self.order, folder, name, steps) {
             Ok(_) => return Err(TreeFault::AlreadyExists),
             Err(place) => place,
         };

@@ -18,18 +18,18 @@ use name_rules::fold_prefix;
 use node_table::{NodeTable, NodeView};
 use std::hint::select_unpredictable;
 
-// How many of the entries among which a place is sought are passed after a look at the middle one: that one and those
-// before it, if it stands before the place, else none. Half of the entries are left in both cases, so that only the
-// place of the next look waits for this one.
+/// How many of the entries among which a place is sought are passed after a look at the middle one: that one and those
+/// before it, if it stands before the place, else none. Half of the entries are left in both cases, so that only the
+/// place of the next look waits for this one.
 #[inline]
-fn passed(size: usize, before: bool) -> usize
+pub fn passed(size: usize, before: bool) -> usize
     ensures { result ≡ (if before then size - size / 2 else 0) }
 {
     select_unpredictable(before, size - size / 2, 0)
 }
 
 // The run that begins with the node of a name in a folder, or as an `Err` how many runs begin before the place of
-// that name. It takes a look, if there is a run, and no more than 14.
+// that name. It takes a look, if there is a run, and no more than 14, one less if there are fewer than 8,192.
 fn runs_before<L: Ledger>(
     slots: &NodeTable,
     order: &Order,
@@ -51,6 +51,7 @@ fn runs_before<L: Ledger>(
     ensures beyond { IfErr result (λ count. IsBeyond (rows_of slots.now.slots) (entries_of order.now.runs) folder name.now (start_of order.now.runs count)) }
     ensures some { 0 < length order.now.runs → steps.old + 1 ≤ steps.new }
     ensures looks { steps.new ≤ steps.old + 14 }
+    ensures fewer { length order.now.runs < 8192 → steps.new ≤ steps.old + 13 }
 {
     let mut low = 0;
     let mut size = order.run_count();
@@ -129,6 +130,7 @@ pub fn place_of<L: Ledger>(
     ensures beyond { IfErr result (λ place. IsBeyond (rows_of slots.now.slots) (entries_of order.now.runs) folder name.now (index_of order.now.runs place)) }
     ensures some { 0 < length order.now.runs → steps.old + 1 ≤ steps.new }
     ensures looks { steps.new ≤ steps.old + 21 }
+    ensures fewer { length order.now.runs < 8192 → steps.new ≤ steps.old + 20 }
 {
     match runs_before(slots, order, folder, prefix, name, steps) {
         Ok(run) => {
@@ -168,6 +170,7 @@ pub fn search<L: Ledger>(
     ensures none { IfErr result (λ place. child_number (rows_of slots.now.slots) folder name.now ≡ None) }
     ensures some { steps.old + 1 ≤ steps.new }
     ensures looks { steps.new ≤ steps.old + 21 }
+    ensures fewer { length order.now.runs < 8192 → steps.new ≤ steps.old + 20 }
 {
     if order.run_count() == 0 {
         // There is no other node than the folder.

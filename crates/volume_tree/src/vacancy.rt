@@ -15,8 +15,9 @@ use block_list::Place;
 use fsrm_model::{Ledger, Steps};
 use node_table::NodeTable;
 
-// Whether what stands in front of a place is known to come before a name in a folder. It takes a look at most.
-fn is_floor<L: Ledger>(
+/// Whether what stands in front of a place is known to come before a name in a folder. It takes a look at most, and one
+/// unless the place is at the beginning of a run or past the last one.
+pub fn is_floor<L: Ledger>(
     slots: &NodeTable,
     order: &Order,
     folder: u32,
@@ -31,6 +32,8 @@ fn is_floor<L: Ledger>(
     requires prefix { prefix ≡ prefix_of name.now }
     ensures gap { result ≡ true → IsGap order.now.runs place }
     ensures floor { result ≡ true → IsFloor (rows_of slots.now.slots) (entries_of order.now.runs) folder name.now (index_of order.now.runs place) }
+    ensures some { 0 < place.offset → result ≡ true → steps.old + 1 ≤ steps.new }
+    ensures least { steps.old ≤ steps.new }
     ensures looks { steps.new ≤ steps.old + 1 }
 {
     if place.offset == 0 {

@@ -13,12 +13,18 @@ use Rattle.volume_tree.proofs.ordering.Spans.{beyond_after, beyond_here, floor_p
 abbrev pub Passes : Bool → ℕ → ℕ → Type 0
 Passes before size passed = passed ≡ (if before then size - size / 2 else 0)
 
+-- what is passed and what is left then aren't more than there were
+pub passed_within : (before : Bool) (size passed : ℕ) → Passes before size passed → passed + size / 2 ≤ size
+passed_within true size passed p = omega (arith, p)
+passed_within false size passed p = omega (arith, p)
+
 -- so many runs from one on, in front of which the runs begin before the name's place, and behind which no entry does
 pub record AreRunsLeft (nodes : List NodeRow) (runs : List (List ℕ)) (folder : ℕ) (name : List ℕ) (begun low size looks : ℕ) : Type 0 where
   pub within : low + size ≤ length runs
   pub floor : (run : ℕ) → run + 1 ≡ low → IsFloor nodes (entries_of runs) folder name (start_of runs run + 1)
   pub beyond : IsBeyond nodes (entries_of runs) folder name (start_of runs (low + size))
   pub few : IsFew (begun + 14) size looks
+  pub fewer : length runs < 8192 → IsFew (begun + 13) size looks
   pub least : begun ≤ looks
   pub some : size < length runs → begun + 1 ≤ looks
 
@@ -30,6 +36,7 @@ runs_left nodes runs folder name begun low size looks passed n true row a o h s 
       floor = λ run e. run_past nodes runs folder name (low + (size - 1) / 2) n row a o at found (sym t) run (omega (arith, e, p, s));
       beyond = subst (λ k. IsBeyond nodes (entries_of runs) folder name (start_of runs k)) same h.beyond;
       few = few_halved (begun + 14) size looks h.few s;
+      fewer = λ l. few_halved (begun + 13) size looks (h.fewer l) s;
       least = omega (arith, h.least);
       some = λ _. omega (arith, h.least);
     }
@@ -46,6 +53,7 @@ runs_left nodes runs folder name begun low size looks passed n false row a o h s
           (beyond_after nodes (entries_of runs) folder name (start_of runs middle) (start_of runs (low + size / 2)) next (omega (arith, end, whole))
           (beyond_here nodes (entries_of runs) folder name (start_of runs middle) n row o a at found (sym t) u));
       few = few_halved (begun + 14) size looks h.few s;
+      fewer = λ l. few_halved (begun + 13) size looks (h.fewer l) s;
       least = omega (arith, h.least);
       some = λ _. omega (arith, h.least);
     }

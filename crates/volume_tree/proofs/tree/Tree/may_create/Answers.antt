@@ -9,8 +9,8 @@ use Rattle.volume_tree.proofs.kept.KeptLaws.{few_order, get_index}
 use Rattle.volume_tree.proofs.kept.MakeLaws.{taken_first}
 use Rattle.volume_tree.proofs.tree.Tree.may_create.Goals as goal
 
-pub search-requires-clause-few : goal.search-requires-clause-few
-search-requires-clause-few g c = few_order _ _ _ _ _ _ c.self.invariant.kept
+pub search_new-requires-clause-few : goal.search_new-requires-clause-few
+search_new-requires-clause-few g c = few_order _ _ _ _ _ _ c.self.invariant.kept
 
 pub returns-in-Ok-clause-fault : goal.returns-in-Ok-clause-fault
 returns-in-Ok-clause-fault g c =
