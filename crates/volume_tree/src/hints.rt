@@ -240,14 +240,14 @@ impl Hints {
         }
     }
 
-    // Doubles the table of files if it has fewer than four places for each number up to this one, and room. An entry
+    // Doubles the table of files if it has fewer than two places for each number up to this one, and room. An entry
     // doesn't tell in which half it is sought from then on, so it comes to stand in both, in one of them for nothing; a
     // file that comes there takes its place.
     fn fit_files(&mut self, number: u32)
         ensures room { KeepsRoom self.old self.new }
     {
         let count = self.files.len();
-        if 4 * number as usize <= count || count > self.files.capacity() / 2 {
+        if 2 * number as usize <= count || count > self.files.capacity() / 2 {
             return;
         }
         for index in 0..count {
