@@ -32,6 +32,7 @@ use Rattle.fsrm_store.specs.States.State.{NoState}
 use Rattle.fsrm_store.proofs.KeepsLaws.{new_keeps, written_holds}
 use Rattle.fsrm_store.proofs.ReadLaws.{heads_none}
 use Rattle.fsrm_store.proofs.StateLaws.{holds_told, same_ok}
+use Rattle.fsrm_store.proofs.TailLaws.{store_tail}
 
 -- ---- the head
 size_is : (K : Capacity) → is_capacity K ≡ true → (1 ≤ K.nodes) × (is_cluster_size K.cluster ≡ true)
@@ -54,22 +55,25 @@ head_legal K image legal fits = record {
 }
 
 -- ---- what is written holds the new store
-new_state : (head : Head) (parts : Parts) → 1 ≤ head.size.nodes → head.version ≡ 2 → HoldsStore Zero head new_image [] parts → HoldsNew head.size parts
-new_state head parts some second store = record {
+new_state : (head : Head) (parts : Parts) → 1 ≤ head.size.nodes → head.generation ≡ 1 → head.version ≡ 2 → HoldsStore Zero head new_image [] parts → HoldsNew head.size parts
+new_state head parts some first second store = record {
   rows = holds_told head.size new_rows parts (written_holds Zero new_rows head new_image [] [] new_rows parts (new_keeps head some) store);
+  rules = store.rules;
+  first = ap (λ (h : Head). h.generation) store.says ∙ first;
+  empty = store_tail Zero head new_image [] parts store;
   young = λ ruling rules.
       let rule : Zero ≡ ruling = same_ok Zero ruling (judged_parts parts) store.rules rules in
       let version : is_first_version Zero parts ≡ false = ap (λ (h : Head). nat_eq h.version 1) store.says ∙ ap (λ (n : ℕ). nat_eq n 1) second in
       subst (λ (p : Part). is_first_version p parts ≡ false) rule version;
 }
 
-none_or_new : (head : Head) (parts : Parts) → 1 ≤ head.size.nodes → head.version ≡ 2 → NoneOrFresh head new_image parts → (state_of parts ≡ NoState) ⊎ HoldsNew head.size parts
-none_or_new head parts some second (inl none) = inl (heads_none parts none)
-none_or_new head parts some second (inr fresh) = inr (new_state head parts some second (fresh_store Zero head new_image parts fresh))
+none_or_new : (head : Head) (parts : Parts) → 1 ≤ head.size.nodes → head.generation ≡ 1 → head.version ≡ 2 → NoneOrFresh head new_image parts → (state_of parts ≡ NoState) ⊎ HoldsNew head.size parts
+none_or_new head parts some first second (inl none) = inl (heads_none parts none)
+none_or_new head parts some first second (inr fresh) = inr (new_state head parts some first second (fresh_store Zero head new_image parts fresh))
 
 pub makes : {D : Type 0} {clock : D → Option ℕ} {images : D → ℕ → Parts → Type 0} {old new : D} (head : Head) (image : List ℕ) → 1 ≤ head.size.nodes → image ≡ new_image
-    → head.version ≡ 2 → Formats clock images head image old new → MakesStore clock images head.size old new
-makes head image some is second f = record {
+    → head.generation ≡ 1 → head.version ≡ 2 → Formats clock images head image old new → MakesStore clock images head.size old new
+makes head image some is first second f = record {
   begun = f.begun;
   closed = f.closed;
   quiet = f.quiet;
@@ -77,14 +81,14 @@ makes head image some is second f = record {
   before = f.before;
   after = λ t m left told from to there. elim (cases_lt m f.whole) [
     | inl early ↦ inl (heads_none left (f.shut t m left told from to early there))
-    | inr late ↦ none_or_new head left some second (subst (λ (image : List ℕ). NoneOrFresh head image left) is (f.after t m left told from to late there).0)
+    | inr late ↦ none_or_new head left some first second (subst (λ (image : List ℕ). NoneOrFresh head image left) is (f.after t m left told from to late there).0)
   ];
 }
 
 pub is_new : {D : Type 0} {reads : D → Option Parts} {clock : D → Option ℕ} {images : D → ℕ → Parts → Type 0} {disk : D} (head : Head) (image : List ℕ) (now : Parts) → 1 ≤ head.size.nodes → image ≡ new_image
-    → head.version ≡ 2 → Certain reads clock images now disk → HoldsStore Zero head image [] now → IsNew reads clock images head.size disk
-is_new head image now some is second certain store =
-    let state : HoldsNew head.size now = new_state head now some second (subst (λ (image : List ℕ). HoldsStore Zero head image [] now) is store) in
+    → head.generation ≡ 1 → head.version ≡ 2 → Certain reads clock images now disk → HoldsStore Zero head image [] now → IsNew reads clock images head.size disk
+is_new head image now some is first second certain store =
+    let state : HoldsNew head.size now = new_state head now some first second (subst (λ (image : List ℕ). HoldsStore Zero head image [] now) is store) in
     record {
       told = λ parts told. subst (λ (p : Parts). HoldsNew head.size p) (some_is (sym certain.told ∙ told)) state;
       left = record { now = λ t i told left. subst (λ (p : Parts). HoldsNew head.size p) (sym (certain.only t i told left)) state };
@@ -100,7 +104,7 @@ none_called clock images disk s t m i at_old at_new from to left =
 pub makes_none : {D : Type 0} {clock : D → Option ℕ} {images : D → ℕ → Parts → Type 0} (K : Capacity) (disk : D) → is_capacity K ≡ true → MakesStore clock images K disk disk
 makes_none {clock = clock} {images = images} K disk legal =
     let head : Head = record { generation = 1; version = 2; size = K; image = 99 } in
-    makes head new_image (some_nodes K legal) refl refl (formats_never head new_image (none_called clock images disk))
+    makes head new_image (some_nodes K legal) refl refl refl (formats_never head new_image (none_called clock images disk))
 
 -- ---- what is answered
 pub init_err : (parts : Parts) (fault : JournalFault) → IsFormatted {A = Unit {0}} parts (Err fault) → IsInit {A = Unit {0}} parts (Err (of_journal fault))

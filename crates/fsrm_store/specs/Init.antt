@@ -4,10 +4,14 @@ use Rattle.std.specs.Option.{ForSome}
 use Rattle.fsrm_model.specs.declared.row.Capacity.{Capacity}
 use Rattle.fsrm_model.specs.nodes.Fresh.{new_rows}
 use Rattle.fsrm_outside.specs.Moments.{EachNow}
-use Rattle.fsrm_outside.specs.Parts.{Parts}
+use Rattle.fsrm_outside.specs.Parts.{Parts, part_of}
 use Rattle.fsrm_outside.specs.declared.traits.Part.{Part}
+use Rattle.fsrm_outside.specs.declared.traits.Part.TheVariants.{Zero}
+use Rattle.fsrm_journal.specs.HeadSays.{head_says}
+use Rattle.fsrm_journal.specs.Heads.{head_of}
 use Rattle.fsrm_journal.specs.Formatted.{has_store, SameButGates}
 use Rattle.fsrm_journal.specs.Opened.{judged_parts}
+use Rattle.fsrm_store.specs.Keeps.{HasTail}
 use Rattle.fsrm_store.specs.Recovery.{is_first_version}
 use Rattle.fsrm_store.specs.States.{state_of}
 use Rattle.fsrm_store.specs.States.State.{NoState, Holds}
@@ -23,9 +27,12 @@ IsInit parts (Err NoMemory) = Unit {0}
 IsInit parts (Err NoStore) = ⊥
 IsInit parts (Err (Damaged part place)) = ⊥
 
--- The new store of this size, which has version 2.
+-- The new store of this size: part 0 rules, as the first generation and in version 2, and no record comes after its image.
 pub record HoldsNew (size : Capacity) (parts : Parts) : Type 0 where
   pub rows : state_of parts ≡ Holds size new_rows
+  pub rules : judged_parts parts ≡ Ok Zero
+  pub first : (head_says (head_of (part_of Zero parts))).generation ≡ 1
+  pub empty : HasTail 0 parts
   pub young : (ruling : Part) → judged_parts parts ≡ Ok ruling → is_first_version ruling parts ≡ false
 
 -- A read gives the new store, and so does a crash.

@@ -15,15 +15,15 @@ pub returns-in_err-image-clause-quiet : goal.returns-in_err-image-clause-quiet
 returns-in_err-image-clause-quiet g c parts told there = none_called g.D.Disk.disk_clock g.D.Disk.images c.args.disk.now
 
 pub returns-in_err-format-clause-any_moment : goal.returns-in_err-format-clause-any_moment
-returns-in_err-format-clause-any_moment g c parts told = makes _ _ (some_nodes c.args.size c.requires.legal) (c.deref.ensures.value ∙ c.in_ok-image.ensures) refl (c.format.ensures.any_moment parts told)
+returns-in_err-format-clause-any_moment g c parts told = makes _ _ (some_nodes c.args.size c.requires.legal) (c.deref.ensures.value ∙ c.in_ok-image.ensures) refl refl (c.format.ensures.any_moment parts told)
 
 pub returns-clause-any_moment : goal.returns-clause-any_moment
-returns-clause-any_moment g c parts told = makes _ _ (some_nodes c.args.size c.requires.legal) (c.deref.ensures.value ∙ c.in_ok-image.ensures) refl (c.format.ensures.any_moment parts told)
+returns-clause-any_moment g c parts told = makes _ _ (some_nodes c.args.size c.requires.legal) (c.deref.ensures.value ∙ c.in_ok-image.ensures) refl refl (c.format.ensures.any_moment parts told)
 
 pub returns-clause-made : goal.returns-clause-made
 returns-clause-made g c parts told =
     let made = c.in_ok-format.ensures.store parts told in
-    is_new _ _ made.0 (some_nodes c.args.size c.requires.legal) (c.deref.ensures.value ∙ c.in_ok-image.ensures) refl made.1 made.2
+    is_new _ _ made.0 (some_nodes c.args.size c.requires.legal) (c.deref.ensures.value ∙ c.in_ok-image.ensures) refl refl made.1 made.2
 
 pub format-requires-clause-legal : goal.format-requires-clause-legal
 format-requires-clause-legal g c =
