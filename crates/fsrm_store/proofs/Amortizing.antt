@@ -1,5 +1,5 @@
 -- Images are paid for by records.
-use Rattle.std.proofs.Common.{◌≡◌, ℕ, suc, true, ◌+◌, ◌*◌, ◌≤◌, ◌<◌, List, [], ◌∷◌, ◌++◌, length, length-append, arith, sym, ◌∙◌, ap, subst}
+use Rattle.std.proofs.Common.{◌≡◌, inl, inr, ℕ, suc, true, ◌+◌, ◌*◌, ◌≤◌, ◌<◌, List, [], ◌∷◌, ◌++◌, length, length-append, arith, sym, ◌∙◌, ap, subst}
 use Rattle.std.specs.Prelude.{◌/◌, ◌-◌, max, Err, Option, Result, if◌then◌else◌}
 use Rattle.std.proofs.lemmas.Nat.{le-div, mul-le}
 use Rattle.fsrm_model.specs.commands.Step.{step}
@@ -13,7 +13,7 @@ use Rattle.fsrm_journal.specs.Records.{records}
 use Rattle.fsrm_journal.specs.Stores.{Holding, Stands}
 use Rattle.fsrm_journal.specs.declared.journal.Journal.{Journal}
 use Rattle.fsrm_journal.proofs.Files.{records-append}
-use Rattle.fsrm_store.specs.Amortized.{bytes_left, bytes_since, entries_bytes, held_bytes, record_bytes, Amortized}
+use Rattle.fsrm_store.specs.Amortized.{bytes_left, bytes_since, entries_bytes, held_bytes, record_bytes, Amortized, KeepsHalf, RulesStill}
 use Rattle.fsrm_store.specs.Standing.{tail_of, StandsFor}
 use Rattle.fsrm_store.specs.declared.fault.StoreFault.{StoreFault}
 use Rattle.fsrm_store.specs.declared.fault.StoreFault.TheVariants.{DiskFault, NoMemory}
@@ -51,6 +51,16 @@ later nodes looks mid steps bytes other left few is a = record { images = a.imag
 
 pub renamed : (nodes others looks mid steps bytes other left : ℕ) → nodes ≡ others → mid ≤ looks → bytes ≡ other → Amortized nodes mid steps bytes left → Amortized others looks steps other left
 renamed nodes others looks mid steps bytes other left same few is a = subst (λ (n : ℕ). Amortized n looks steps other left) same (later nodes looks mid steps bytes other left few is a)
+
+-- ---- when an image is written
+-- a tail that is too long has more bytes than the image, and than 1 MiB
+pub longer : (tail image most : ℕ) → most ≡ max image 1048576 → most < tail → max 1048576 image < tail
+longer tail image most is long = grind (arith, is, long)
+
+-- before and after such a call the half was left as it was
+pub half_then : (old mid now new : Store) (bytes others : ℕ) → KeepsHalf mid now bytes → RulesStill old mid → RulesStill now new → bytes ≡ others → KeepsHalf old new others
+half_then old mid now new bytes others (inl kept) before after same = inl (record { ruling = after.ruling ∙ kept.ruling ∙ before.ruling; image_end = after.image_end ∙ kept.image_end ∙ before.image_end; image = after.image ∙ kept.image ∙ before.image })
+half_then old mid now new bytes others (inr long) before after same = inr (subst (λ (n : ℕ). max 1048576 n < others) before.image (subst (λ (n : ℕ). max 1048576 mid.image < n) same long))
 
 -- ---- the bytes of records
 pub entry_bytes : (K : Capacity) (R : Rows) (c : Command) (entry : Entry) → (step K R c).lasting ≡ true → entry ≡ journal_entry R c → entries_bytes (command_entries K R c) ≡ record_bytes entry

@@ -1,5 +1,5 @@
 -- Which looks images take: 2 a node for each, and each comes after more than 1 MiB of records.
-use Rattle.std.specs.Prelude.{ℕ, zero, suc, ◌+◌, ◌*◌, ◌≤◌, List, length, sum_by, Result, Ok, Err}
+use Rattle.std.specs.Prelude.{◌≡◌, ◌⊎◌, ℕ, zero, suc, ◌+◌, ◌*◌, ◌≤◌, ◌<◌, max, List, length, sum_by, Result, Ok, Err}
 use Rattle.fsrm_model.specs.declared.command.Entry.{Entry}
 use Rattle.fsrm_journal.specs.declared.journal.Journal.{Journal}
 use Rattle.record_codec.specs.Entries.{entry as entry_format}
@@ -37,3 +37,14 @@ pub record Amortized (nodes looks steps bytes left : ℕ) : Type 0 where
   pub images : ℕ
   pub few : steps ≤ looks + images * (2 * nodes)
   pub paid : images * 1048576 + left ≤ bytes
+
+-- ---- when an image is written
+-- the half that ruled still does, with its image
+pub record RulesStill (old new : Store) : Type 0 where
+  pub ruling : new.journal.ruling ≡ old.journal.ruling
+  pub image_end : new.journal.image_end ≡ old.journal.image_end
+  pub image : new.image ≡ old.image
+
+-- It does, unless the records after the image came to have more bytes than the image, and more than 1 MiB.
+abbrev pub KeepsHalf : Store → Store → ℕ → Type 0
+KeepsHalf old new bytes = RulesStill old new ⊎ (max 1048576 old.image < bytes)

@@ -8,7 +8,7 @@ ghost use Rattle.fsrm_outside.specs.Causes.{HasCause};
 ghost use Rattle.fsrm_outside.specs.Moments.{EachImage};
 ghost use Rattle.record_codec.specs.Entries.{entry as entry_format};
 ghost use Rattle.record_codec.specs.Writing.{lent, IsWritable};
-ghost use Rattle.fsrm_store.specs.Amortized.{bytes_left, bytes_since, record_bytes, Amortized};
+ghost use Rattle.fsrm_store.specs.Amortized.{bytes_left, bytes_since, record_bytes, Amortized, KeepsHalf};
 ghost use Rattle.fsrm_store.specs.Standing.{now_kept, HoldsEither, IsHeld, IsReady, IsWritten, Leads, Standing, StandsFor};
 ghost use Rattle.fsrm_store.specs.declared.fault.StoreFault.TheVariants.{DiskFault};
 
@@ -49,6 +49,8 @@ impl Store {
             → OnOk result (Standing D.reads D.disk_clock D.images (now_kept kept self.new) self.new disk.new) }
         ensures held { self.old.journal.held + 1 < self.old.group → OnOk result (IsHeld self.old self.new × (disk.new ≡ disk.old)) }
         ensures written { self.old.journal.held + 1 ≡ self.old.group → OnOk result (IsWritten self.new) }
+        ensures half { (kept R : Rows) → StandsFor D.reads D.disk_clock D.images kept R self.old disk.old → Leads self.old.engine.size R (lent entry.now) self.old.engine.rows
+            → OnOk result (KeepsHalf self.old self.new (bytes_since self.old.journal + record_bytes (lent entry.now))) }
         ensures engine { self.new.engine ≡ self.old.engine }
         ensures sound { OnOk result (self.new.sound ≡ true) }
         ensures unsound { OnErr result (self.new.sound ≡ false) }
@@ -87,6 +89,7 @@ impl Store {
         ensures store { (kept : Rows) → Standing D.reads D.disk_clock D.images kept self.old disk.old
             → OnOk result (Standing D.reads D.disk_clock D.images (lasting self.new.engine.rows) self.new disk.new) }
         ensures written { OnOk result (IsWritten self.new) }
+        ensures half { (kept : Rows) → Standing D.reads D.disk_clock D.images kept self.old disk.old → OnOk result (KeepsHalf self.old self.new (bytes_since self.old.journal)) }
         ensures engine { self.new.engine ≡ self.old.engine }
         ensures sound { self.new.sound ≡ false }
         ensures young { self.old.is_old ≡ false → OnOk result (self.new.is_old ≡ false) }
@@ -122,6 +125,7 @@ impl Store {
             → OnOk result (Standing D.reads D.disk_clock D.images (lasting self.new.engine.rows) self.new disk.new) }
         ensures idle { self.old.journal.held ≡ 0 → (self.new ≡ self.old) × (disk.new ≡ disk.old) }
         ensures written { 0 < self.old.journal.held → OnOk result (IsWritten self.new) }
+        ensures half { (kept : Rows) → Standing D.reads D.disk_clock D.images kept self.old disk.old → OnOk result (KeepsHalf self.old self.new (bytes_since self.old.journal)) }
         ensures none { OnOk result (self.new.journal.held ≡ 0) }
         ensures engine { self.new.engine ≡ self.old.engine }
         ensures sound { OnOk result (self.new.sound ≡ true) }

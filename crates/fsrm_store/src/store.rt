@@ -48,7 +48,7 @@ pub struct Store {
 }
 
 impl Store {
-    ghost use Rattle.fsrm_store.specs.Amortized.{bytes_left, bytes_since, entries_bytes, Amortized};
+    ghost use Rattle.fsrm_store.specs.Amortized.{bytes_left, bytes_since, entries_bytes, Amortized, KeepsHalf};
     ghost use Rattle.fsrm_store.specs.Standing.{now_kept, HoldsEither, IsHeld, IsReady, IsWritten, KeepsJournal, Standing, StandsAlike};
     ghost use Rattle.fsrm_store.specs.declared.fault.StoreFault.TheVariants.{DiskFault, NoMemory as OutOfMemory};
 
@@ -139,6 +139,8 @@ impl Store {
         ensures passing { IfOk result (λ answer. answer.lasting ≡ false → KeepsJournal self.old self.new × (disk.new ≡ disk.old)) }
         ensures held { self.old.journal.held + 1 < self.old.group → IfOk result (λ answer. answer.lasting ≡ true → IsHeld self.old self.new × (disk.new ≡ disk.old)) }
         ensures written { self.old.journal.held + 1 ≡ self.old.group → IfOk result (λ answer. answer.lasting ≡ true → IsWritten self.new) }
+        ensures half { (kept : Rows) → Standing D.reads D.disk_clock D.images kept self.old disk.old
+            → OnOk result (KeepsHalf self.old self.new (bytes_since self.old.journal + entries_bytes (command_entries self.old.engine.size self.old.engine.rows command.now))) }
         ensures leaves { (kept : Rows) → Standing D.reads D.disk_clock D.images kept self.old disk.old
             → EachImage D.disk_clock D.images (HoldsEither self.old.engine.size kept (lasting (step self.old.engine.size self.old.engine.rows command.now).rows)) disk.old disk.new }
         ensures store { (kept : Rows) → Standing D.reads D.disk_clock D.images kept self.old disk.old
@@ -185,6 +187,8 @@ impl Store {
         ensures passing { IfOk result (λ answer. answer.lasting ≡ false → KeepsJournal self.old self.new × (disk.new ≡ disk.old)) }
         ensures held { self.old.journal.held + 1 < self.old.group → IfOk result (λ answer. answer.lasting ≡ true → IsHeld self.old self.new × (disk.new ≡ disk.old)) }
         ensures written { self.old.journal.held + 1 ≡ self.old.group → IfOk result (λ answer. answer.lasting ≡ true → IsWritten self.new) }
+        ensures half { (kept : Rows) → Standing D.reads D.disk_clock D.images kept self.old disk.old
+            → OnOk result (KeepsHalf self.old self.new (bytes_since self.old.journal + entries_bytes (command_entries self.old.engine.size self.old.engine.rows (record { moment = moment; deed = File op.now })))) }
         ensures leaves { (kept : Rows) → Standing D.reads D.disk_clock D.images kept self.old disk.old
             → EachImage D.disk_clock D.images (HoldsEither self.old.engine.size kept (lasting (step self.old.engine.size self.old.engine.rows (record { moment = moment; deed = File op.now })).rows)) disk.old disk.new }
         ensures store { (kept : Rows) → Standing D.reads D.disk_clock D.images kept self.old disk.old

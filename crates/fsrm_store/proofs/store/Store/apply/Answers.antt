@@ -1,4 +1,4 @@
-use Rattle.std.proofs.Common.{refl, sym, ◌∙◌, ◌≡◌, true, length, subst, ap, arith}
+use Rattle.std.proofs.Common.{inl, refl, sym, ◌∙◌, ◌≡◌, true, length, subst, ap, arith}
 use Rattle.fsrm_model.specs.declared.command.Outcome.{Outcome}
 use Rattle.fsrm_model.specs.store.Replays.{is_finished_scan}
 use Rattle.fsrm_store.proofs.KeptAs.{lasting_finished}
@@ -12,7 +12,7 @@ use Rattle.fsrm_engine.specs.Machine.{Machine, Takes}
 use Rattle.record_codec.specs.Writing.{IsWritable}
 use Rattle.fsrm_store.proofs.KeepsLaws.{entry_writable}
 use Rattle.fsrm_store.specs.declared.fault.StoreFault.TheVariants.{DiskFault}
-use Rattle.fsrm_store.proofs.Amortizing.{entry_bytes, left_all, left_same, renamed, unpaid}
+use Rattle.fsrm_store.proofs.Amortizing.{entry_bytes, half_then, left_all, left_same, renamed, unpaid}
 use Rattle.fsrm_store.proofs.Standings.{leads, leaves_as, none_held, settled, stands_on, stands_still}
 use Rattle.fsrm_store.proofs.store.Store.apply.Goals as goal
 
@@ -107,3 +107,16 @@ returns-in_ok-keep-clause-amortized g c kept s =
 
 pub returns-else-answer-clause-amortized : goal.returns-else-answer-clause-amortized
 returns-else-answer-clause-amortized g c kept s = unpaid _ _ _ _ _ (omega (arith, c.apply.ensures.looks)) (omega arith)
+
+-- ---- when an image is written
+pub returns-in_ok-keep-clause-half : goal.returns-in_ok-keep-clause-half
+returns-in_ok-keep-clause-half g c kept s =
+    let t = c.in_ok-answer.ensures.ok in
+    let old = c.args.self.now.engine in
+    let lasts = sym t.lasting_is ∙ c.if-answer.true in
+    let l = leads old.size _ old.rows _ c.args.command.now _ c.requires.valid lasts (c.entry_of.ensures old.size old.rows (sym t.outcome_is)) t.size_is t.rows_are in
+    let bytes = entry_bytes old.size old.rows c.args.command.now _ lasts (c.entry_of.ensures old.size old.rows (sym t.outcome_is)) in
+    half_then _ _ _ _ _ _ (c.in_ok-keep.ensures.half kept old.rows (stands_on _ s refl t.size_is refl refl) l) (record { ruling = refl; image_end = refl; image = refl }) (record { ruling = refl; image_end = refl; image = refl }) (omega (arith, bytes))
+
+pub returns-else-answer-clause-half : goal.returns-else-answer-clause-half
+returns-else-answer-clause-half g c kept s = inl (record { ruling = refl; image_end = refl; image = refl })

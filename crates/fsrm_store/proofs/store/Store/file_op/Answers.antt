@@ -1,4 +1,4 @@
-use Rattle.std.proofs.Common.{refl, sym, ◌∙◌, ◌≡◌, length, subst, ap, arith}
+use Rattle.std.proofs.Common.{inl, refl, sym, ◌∙◌, ◌≡◌, length, subst, ap, arith}
 use Rattle.std.specs.Prelude.{◌&&◌, Err}
 use Rattle.fsrm_base.proofs.TestLaws.{both, le_is}
 use Rattle.fsrm_model.specs.declared.command.Deed.{Deed}
@@ -14,7 +14,7 @@ use Rattle.fsrm_model.specs.meaning.Named.{IsNamed}
 use Rattle.fsrm_engine.specs.Machine.{Machine, Takes}
 use Rattle.fsrm_store.proofs.KeepsLaws.{entry_writable}
 use Rattle.fsrm_store.specs.declared.fault.StoreFault.TheVariants.{DiskFault}
-use Rattle.fsrm_store.proofs.Amortizing.{entry_bytes, left_all, left_same, renamed, unpaid}
+use Rattle.fsrm_store.proofs.Amortizing.{entry_bytes, half_then, left_all, left_same, renamed, unpaid}
 use Rattle.fsrm_store.proofs.Standings.{leads, leaves_as, none_held, settled, stands_on, stands_still}
 use Rattle.fsrm_store.proofs.store.Store.file_op.Goals as goal
 
@@ -113,3 +113,16 @@ returns-in_ok-keep-clause-amortized g c kept s =
 
 pub returns-else-answer-clause-amortized : goal.returns-else-answer-clause-amortized
 returns-else-answer-clause-amortized g c kept s = unpaid _ _ _ _ _ (omega (arith, c.file_op.ensures.looks)) (omega arith)
+
+-- ---- when an image is written
+pub returns-in_ok-keep-clause-half : goal.returns-in_ok-keep-clause-half
+returns-in_ok-keep-clause-half g c kept s =
+    let t = c.in_ok-answer.ensures.ok in
+    let old = c.args.self.now.engine in
+    let lasts = sym t.lasting_is ∙ c.if-answer.true in
+    let l = leads old.size _ old.rows _ (record { moment = c.args.moment; deed = File c.args.op.now }) _ c.requires.valid lasts refl t.size_is t.rows_are in
+    let bytes = entry_bytes old.size old.rows (record { moment = c.args.moment; deed = File c.args.op.now }) _ lasts refl in
+    half_then _ _ _ _ _ _ (c.in_ok-keep.ensures.half kept old.rows (stands_on _ s refl t.size_is refl refl) l) (record { ruling = refl; image_end = refl; image = refl }) (record { ruling = refl; image_end = refl; image = refl }) (omega (arith, bytes))
+
+pub returns-else-answer-clause-half : goal.returns-else-answer-clause-half
+returns-else-answer-clause-half g c kept s = inl (record { ruling = refl; image_end = refl; image = refl })

@@ -1,8 +1,8 @@
-use Rattle.std.proofs.Common.{refl, sym, ◌∙◌, ap, arith}
+use Rattle.std.proofs.Common.{inl, refl, sym, ◌∙◌, ap, arith}
 use Rattle.std.specs.Prelude.{Err}
 use Rattle.std.proofs.lemmas.Result.{err_from_is_err_and}
 use Rattle.fsrm_model.specs.store.Lasting.{lasting}
-use Rattle.fsrm_store.proofs.Amortizing.{left_same, unpaid}
+use Rattle.fsrm_store.proofs.Amortizing.{half_then, left_same, unpaid}
 use Rattle.fsrm_store.proofs.Standings.{none_waits, stands_on, stands_still}
 use Rattle.fsrm_store.proofs.store.Store.flush.Goals as goal
 
@@ -32,3 +32,9 @@ returns-in_err-write-clause-amortized g c kept s =
 
 pub returns-clause-amortized : goal.returns-clause-amortized
 returns-clause-amortized g c kept s = c.in_ok-write.ensures.amortized kept (stands_on _ s refl refl refl refl)
+
+pub returns-then-held-eq0-clause-half : goal.returns-then-held-eq0-clause-half
+returns-then-held-eq0-clause-half g c kept s = inl (record { ruling = refl; image_end = refl; image = refl })
+
+pub returns-clause-half : goal.returns-clause-half
+returns-clause-half g c kept s = half_then _ _ _ _ _ _ (c.in_ok-write.ensures.half kept (stands_on _ s refl refl refl refl)) (record { ruling = refl; image_end = refl; image = refl }) (record { ruling = refl; image_end = refl; image = refl }) refl

@@ -1,10 +1,10 @@
-use Rattle.std.proofs.Common.{◌≡◌, refl, ◌∙◌, ap, arith}
-use Rattle.std.specs.Prelude.{Err}
+use Rattle.std.proofs.Common.{◌≡◌, ◌<◌, ℕ, inl, inr, subst, refl, ◌∙◌, ap, arith}
+use Rattle.std.specs.Prelude.{max, Err}
 use Rattle.std.proofs.lemmas.Result.{err_from_is_err_and}
 use Rattle.fsrm_model.specs.store.Lasting.{lasting}
 use Rattle.fsrm_outside.proofs.Stages.{DiskLaws, joined}
 use Rattle.fsrm_store.specs.Amortized.{bytes_since}
-use Rattle.fsrm_store.proofs.Amortizing.{left_none, paid_once, passed, since_flushed, since_none, since_tail, unpaid}
+use Rattle.fsrm_store.proofs.Amortizing.{left_none, longer, paid_once, passed, since_flushed, since_none, since_tail, unpaid}
 use Rattle.fsrm_store.proofs.QuietCalls.{journal_disk}
 use Rattle.fsrm_store.proofs.Standings.{flush_leaves, flushed, later_leaves}
 use Rattle.fsrm_store.proofs.store.Store.write.Goals as goal
@@ -73,3 +73,15 @@ pub returns-else-tail-max-clause-amortized : goal.returns-else-tail-max-clause-a
 returns-else-tail-max-clause-amortized g c kept s =
     let same : bytes_since c.flush.new.self ≡ bytes_since c.args.self.now.journal = since_flushed _ _ s (c.in_ok-flush.ensures.store s.head s.bytes s.bodies s.held s.stands s.holding) c.in_ok-flush.ensures.none in
     unpaid _ _ _ _ _ (omega arith) (omega (arith, same))
+
+-- ---- when an image is written
+pub returns-in_ok-change-clause-half : goal.returns-in_ok-change-clause-half
+returns-in_ok-change-clause-half g c kept s =
+    let image = c.args.self.now.image in
+    let mid : bytes_since c.flush.new.self ≡ bytes_since c.args.self.now.journal = since_flushed _ _ s (c.in_ok-flush.ensures.store s.head s.bytes s.bodies s.held s.stands s.holding) c.in_ok-flush.ensures.none in
+    let tail = since_tail c.flush.new.self c.in_ok-flush.ensures.none in
+    let same : c.tail.result ≡ bytes_since c.args.self.now.journal = omega (arith, mid, tail, c.tail.ensures.between) in
+    inr (subst (λ (n : ℕ). max 1048576 image < n) same (longer c.tail.result image c.max.result c.max.ensures c.if-tail-max.true))
+
+pub returns-else-tail-max-clause-half : goal.returns-else-tail-max-clause-half
+returns-else-tail-max-clause-half g c kept s = inl (record { ruling = c.flush.ensures.stands.ruling; image_end = c.flush.ensures.image; image = refl })
