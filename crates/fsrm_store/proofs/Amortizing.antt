@@ -8,7 +8,7 @@ use Rattle.fsrm_model.specs.declared.command.Entry.{Entry}
 use Rattle.fsrm_model.specs.declared.row.Capacity.{Capacity}
 use Rattle.fsrm_model.specs.declared.row.Rows.{Rows}
 use Rattle.fsrm_model.specs.store.Replays.{command_entries, journal_entry}
-use Rattle.fsrm_outside.specs.Parts.{Parts}
+use Rattle.fsrm_outside.specs.Parts.{Parts, other}
 use Rattle.fsrm_journal.specs.Records.{records}
 use Rattle.fsrm_journal.specs.Stores.{Holding, Stands}
 use Rattle.fsrm_journal.specs.declared.journal.Journal.{Journal}
@@ -60,7 +60,10 @@ longer tail image most is long = grind (arith, is, long)
 -- before and after such a call the half was left as it was
 pub half_then : (old mid now new : Store) (bytes others : ℕ) → KeepsHalf mid now bytes → RulesStill old mid → RulesStill now new → bytes ≡ others → KeepsHalf old new others
 half_then old mid now new bytes others (inl kept) before after same = inl (record { ruling = after.ruling ∙ kept.ruling ∙ before.ruling; image_end = after.image_end ∙ kept.image_end ∙ before.image_end; image = after.image ∙ kept.image ∙ before.image })
-half_then old mid now new bytes others (inr long) before after same = inr (subst (λ (n : ℕ). max 1048576 n < others) before.image (subst (λ (n : ℕ). max 1048576 mid.image < n) same long))
+half_then old mid now new bytes others (inr turned) before after same = inr (record {
+  long = subst (λ (n : ℕ). max 1048576 n < others) before.image (subst (λ (n : ℕ). max 1048576 mid.image < n) same turned.long);
+  ruling = after.ruling ∙ turned.ruling ∙ ap other before.ruling;
+})
 
 -- ---- the bytes of records
 pub entry_bytes : (K : Capacity) (R : Rows) (c : Command) (entry : Entry) → (step K R c).lasting ≡ true → entry ≡ journal_entry R c → entries_bytes (command_entries K R c) ≡ record_bytes entry

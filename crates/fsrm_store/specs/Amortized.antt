@@ -1,6 +1,7 @@
 -- Which looks images take: 2 a node for each, and each comes after more than 1 MiB of records.
 use Rattle.std.specs.Prelude.{◌≡◌, ◌⊎◌, ℕ, zero, suc, ◌+◌, ◌*◌, ◌≤◌, ◌<◌, max, List, length, sum_by, Result, Ok, Err}
 use Rattle.fsrm_model.specs.declared.command.Entry.{Entry}
+use Rattle.fsrm_outside.specs.Parts.{other}
 use Rattle.fsrm_journal.specs.declared.journal.Journal.{Journal}
 use Rattle.record_codec.specs.Entries.{entry as entry_format}
 use Rattle.fsrm_store.specs.Standing.{tail_of}
@@ -45,6 +46,11 @@ pub record RulesStill (old new : Store) : Type 0 where
   pub image_end : new.journal.image_end ≡ old.journal.image_end
   pub image : new.image ≡ old.image
 
--- It does, unless the records after the image came to have more bytes than the image, and more than 1 MiB.
+-- The other half rules: the records after the image came to have more bytes than the image, and more than 1 MiB.
+pub record TurnsOver (old new : Store) (bytes : ℕ) : Type 0 where
+  pub long : max 1048576 old.image < bytes
+  pub ruling : new.journal.ruling ≡ other old.journal.ruling
+
+-- it stays or turns over
 abbrev pub KeepsHalf : Store → Store → ℕ → Type 0
-KeepsHalf old new bytes = RulesStill old new ⊎ (max 1048576 old.image < bytes)
+KeepsHalf old new bytes = RulesStill old new ⊎ TurnsOver old new bytes

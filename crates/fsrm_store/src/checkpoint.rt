@@ -5,6 +5,7 @@ ghost use Rattle.fsrm_model.specs.declared.row.Rows.{Rows};
 ghost use Rattle.fsrm_model.specs.store.Lasting.{lasting};
 ghost use Rattle.fsrm_outside.specs.Causes.{HasCause};
 ghost use Rattle.fsrm_outside.specs.Moments.{EachImage};
+ghost use Rattle.fsrm_outside.specs.Parts.{other};
 ghost use Rattle.fsrm_store.specs.Keeps.{HoldsState};
 ghost use Rattle.fsrm_store.specs.Standing.{IsReady, Standing};
 ghost use Rattle.fsrm_store.specs.declared.fault.StoreFault.TheVariants.{DiskFault};
@@ -30,6 +31,7 @@ impl Store {
         ensures store { (kept : Rows) → Standing D.reads D.disk_clock D.images kept self.old disk.old
             → OnOk result (Standing D.reads D.disk_clock D.images (lasting self.new.engine.rows) self.new disk.new) }
         ensures none { self.new.journal.held ≡ 0 }
+        ensures turned { OnOk result (self.new.journal.ruling ≡ other self.old.journal.ruling) }
         ensures empty { OnOk result (self.new.journal.end ≡ self.new.journal.image_end) }
         ensures engine { self.new.engine ≡ self.old.engine }
         ensures sound { self.new.sound ≡ self.old.sound }

@@ -8,6 +8,7 @@ ghost use Rattle.fsrm_model.specs.store.Lasting.{lasting};
 ghost use Rattle.fsrm_model.specs.store.Valid.{IsValid};
 ghost use Rattle.fsrm_outside.specs.Causes.{HasCause};
 ghost use Rattle.fsrm_outside.specs.Moments.{EachImage};
+ghost use Rattle.fsrm_outside.specs.Parts.{other};
 ghost use Rattle.fsrm_journal.specs.Halves.{IsNext};
 ghost use Rattle.fsrm_journal.specs.Legal.{IsLegal};
 ghost use Rattle.fsrm_journal.specs.Opened.{HoldsOn};
@@ -74,6 +75,7 @@ pub fn change_half<D: Disk, L: Ledger>(
         → Keeps kept was image bodies [] engine.now.rows → was.size ≡ engine.now.size
         → IfOk result (λ n. HasImage D.reads D.disk_clock D.images engine.now.size engine.now.rows n journal.new disk.new) }
     ensures held { HoldsOn journal.old journal.new }
+    ensures turned { OnOk result (journal.new.ruling ≡ other journal.old.ruling) }
     ensures empty { OnOk result (journal.new.end ≡ journal.new.image_end) }
     ensures ready { OnOk result (IsReady D.reads journal.new disk.new) }
     ensures looks { steps.new ≤ steps.old + 2 * length engine.now.rows.nodes }

@@ -6,6 +6,7 @@ ghost use Rattle.fsrm_model.specs.store.Lasting.{lasting};
 ghost use Rattle.fsrm_model.specs.values.Limits.{longest_entry};
 ghost use Rattle.fsrm_outside.specs.Causes.{HasCause};
 ghost use Rattle.fsrm_outside.specs.Moments.{EachImage};
+ghost use Rattle.fsrm_outside.specs.Parts.{other};
 ghost use Rattle.record_codec.specs.Entries.{entry as entry_format};
 ghost use Rattle.record_codec.specs.Writing.{lent, IsWritable};
 ghost use Rattle.fsrm_store.specs.Amortized.{bytes_left, bytes_since, record_bytes, Amortized, KeepsHalf};
@@ -163,6 +164,7 @@ impl Store {
         ensures store { (kept : Rows) → Standing D.reads D.disk_clock D.images kept self.old disk.old
             → OnOk result (Standing D.reads D.disk_clock D.images (lasting self.new.engine.rows) self.new disk.new) }
         ensures none { OnOk result (self.new.journal.held ≡ 0) }
+        ensures turned { OnOk result (self.new.journal.ruling ≡ other self.old.journal.ruling) }
         ensures empty { OnOk result (self.new.journal.end ≡ self.new.journal.image_end) }
         ensures engine { self.new.engine ≡ self.old.engine }
         ensures sound { OnOk result (self.new.sound ≡ true) }

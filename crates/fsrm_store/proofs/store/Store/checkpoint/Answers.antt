@@ -1,5 +1,6 @@
-use Rattle.std.proofs.Common.{refl}
+use Rattle.std.proofs.Common.{refl, ◌∙◌, ap}
 use Rattle.fsrm_model.specs.store.Lasting.{lasting}
+use Rattle.fsrm_outside.specs.Parts.{other}
 use Rattle.fsrm_outside.proofs.Stages.{DiskLaws, joined}
 use Rattle.fsrm_store.proofs.Standings.{flush_leaves, flushed, later_leaves, stands_on}
 use Rattle.fsrm_store.proofs.store.Store.checkpoint.Goals as goal
@@ -31,3 +32,6 @@ returns-clause-leaves g c kept s =
 pub returns-clause-store : goal.returns-clause-store
 returns-clause-store g c kept s =
     stands_on _ (c.in_ok-change.ensures.store (lasting c.args.self.now.engine.rows) (flushed _ _ s (c.in_ok-flush.ensures.store s.head s.bytes s.bodies s.held s.stands s.holding) c.in_ok-flush.ensures.holding refl refl refl)) refl refl refl refl
+
+pub returns-clause-turned : goal.returns-clause-turned
+returns-clause-turned g c = c.in_ok-change.ensures.turned ∙ ap other c.flush.ensures.stands.ruling

@@ -2,6 +2,7 @@ use Rattle.std.proofs.Common.{◌≡◌, ◌<◌, ℕ, inl, inr, subst, refl, �
 use Rattle.std.specs.Prelude.{max, Err}
 use Rattle.std.proofs.lemmas.Result.{err_from_is_err_and}
 use Rattle.fsrm_model.specs.store.Lasting.{lasting}
+use Rattle.fsrm_outside.specs.Parts.{other}
 use Rattle.fsrm_outside.proofs.Stages.{DiskLaws, joined}
 use Rattle.fsrm_store.specs.Amortized.{bytes_since}
 use Rattle.fsrm_store.proofs.Amortizing.{left_none, longer, paid_once, passed, since_flushed, since_none, since_tail, unpaid}
@@ -81,7 +82,10 @@ returns-in_ok-change-clause-half g c kept s =
     let mid : bytes_since c.flush.new.self ≡ bytes_since c.args.self.now.journal = since_flushed _ _ s (c.in_ok-flush.ensures.store s.head s.bytes s.bodies s.held s.stands s.holding) c.in_ok-flush.ensures.none in
     let tail = since_tail c.flush.new.self c.in_ok-flush.ensures.none in
     let same : c.tail.result ≡ bytes_since c.args.self.now.journal = omega (arith, mid, tail, c.tail.ensures.between) in
-    inr (subst (λ (n : ℕ). max 1048576 image < n) same (longer c.tail.result image c.max.result c.max.ensures c.if-tail-max.true))
+    inr (record {
+      long = subst (λ (n : ℕ). max 1048576 image < n) same (longer c.tail.result image c.max.result c.max.ensures c.if-tail-max.true);
+      ruling = c.in_ok-change.ensures.turned ∙ ap other c.flush.ensures.stands.ruling;
+    })
 
 pub returns-else-tail-max-clause-half : goal.returns-else-tail-max-clause-half
 returns-else-tail-max-clause-half g c kept s = inl (record { ruling = c.flush.ensures.stands.ruling; image_end = c.flush.ensures.image; image = refl })
