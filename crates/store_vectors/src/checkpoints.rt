@@ -4,6 +4,7 @@ ghost use Rattle.std.specs.Prelude.{◌≡◌, OnOk};
 ghost use Rattle.fsrm_store.specs.Standing.{IsReady};
 
 use crate::halves::{HEAD, changed, is_closed, new_half};
+use crate::opening::{Task, open};
 use crate::taking::take;
 use fsrm_model::{Ledger, Outcome, Steps, Weightless};
 use fsrm_outside::{Disk, MemoryOutside, Part};
@@ -27,16 +28,13 @@ fn create<D: Disk, L: Ledger>(
     disk: &mut D,
     number: u32,
     steps: &mut Steps<L>,
-) -> Result<(), StoreFault>
+) -> Result<Outcome, StoreFault>
     requires ready { IsReady D.reads store.old.journal disk.old }
     ensures ready { OnOk result (IsReady D.reads store.new.journal disk.new) }
 {
-    let Ok(line) = format!(in alloc; "100 create D:\\{NAME}{number:04} 0 1") else {
-        return Err(StoreFault::NoMemory);
-    };
-    match take(alloc, store, disk, line.as_bytes(), steps)? {
-        Outcome::Done { .. } => Ok(()),
-        _ => Err(StoreFault::NoMemory),
+    match format!(in alloc; "100 create D:\\{NAME}{number:04} 0 1") {
+        Ok(line) => take(alloc, store, disk, line.as_bytes(), steps),
+        Err(_) => Err(StoreFault::NoMemory),
     }
 }
 
@@ -44,26 +42,45 @@ fn create_files<D: Disk, L: Ledger>(
     alloc: Global,
     store: &mut Store,
     disk: &mut D,
-    count: u32,
+    from: u32,
+    to: u32,
     steps: &mut Steps<L>,
 ) -> Result<(), StoreFault>
     requires ready { IsReady D.reads store.old.journal disk.old }
 {
-    for number in 0..count {
+    for number in from..to {
         create(alloc, store, disk, number, steps)?;
     }
     Ok(())
 }
 
-// Opens the store on a disk, and makes files.
-fn fill<D: Disk, L: Ledger>(
+// Files of these numbers are made.
+#[derive(Drop)]
+struct Files {
+    from: u32,
+    to: u32,
+}
+
+impl Task for Files {
+    fn run<D: Disk, L: Ledger>(
+        &mut self,
+        alloc: Global,
+        store: &mut Store,
+        disk: &mut D,
+        steps: &mut Steps<L>,
+    ) -> Result<(), StoreFault> {
+        create_files(alloc, store, disk, self.from, self.to, steps)
+    }
+}
+
+fn makes<D: Disk, L: Ledger>(
     alloc: Global,
     disk: &mut D,
-    count: u32,
+    from: u32,
+    to: u32,
     steps: &mut Steps<L>,
-) -> Result<(), StoreFault> {
-    let mut store = Store::recover(alloc, disk, steps)?;
-    create_files(alloc, &mut store, disk, count, steps)
+) -> bool {
+    open(alloc, disk, &mut Files { from, to }, steps).is_ok()
 }
 
 // The head of the half that is written then. Its image has 99 bytes, and 147 for each file: 1,141,995.
@@ -77,16 +94,6 @@ const FIRST_HEAD: &[u8] =
 // The place of the gate after that image.
 const GATE: usize = 1_142_043;
 
-// Opens the store on a disk, and makes one file more.
-fn add<D: Disk, L: Ledger>(
-    alloc: Global,
-    disk: &mut D,
-    steps: &mut Steps<L>,
-) -> Result<(), StoreFault> {
-    let mut store = Store::recover(alloc, disk, steps)?;
-    create(alloc, &mut store, disk, RECORDS, steps)
-}
-
 // Whether one file more leaves parts that begin so, and an image in part 1.
 fn leaves<L: Ledger>(
     alloc: Global,
@@ -94,25 +101,35 @@ fn leaves<L: Ledger>(
     zero: &[u8],
     one: &[u8],
     steps: &mut Steps<L>,
-) -> Result<bool, Fail> {
-    let mut disk = MemoryOutside::with_parts(alloc, half, &[0], &[], [].as_slice())?;
-    add(alloc, &mut disk, steps)?;
-    let is_zero = disk.part(Part::Zero).starts_with(zero);
-    let is_one = disk.part(Part::One).starts_with(one);
-    Ok(is_zero && is_one && is_closed(disk.part(Part::One), GATE))
+) -> bool {
+    let Ok(mut disk) = MemoryOutside::with_parts(alloc, half, &[0], &[], [].as_slice()) else {
+        return false;
+    };
+    makes(alloc, &mut disk, RECORDS, RECORDS + 1, steps)
+        && disk.part(Part::Zero).starts_with(zero)
+        && disk.part(Part::One).starts_with(one)
+        && is_closed(disk.part(Part::One), GATE)
 }
 
 // The half after as many files as leave the other one as it is.
 fn full_half<L: Ledger>(
     alloc: Global,
     end: &impl Abort,
+    half: &[u8],
     steps: &mut Steps<L>,
 ) -> Result<Vec<u8>, Fail> {
-    let half = new_half(alloc)?;
-    let mut disk = MemoryOutside::with_parts(alloc, &half, &[0], &[], [].as_slice())?;
-    fill(alloc, &mut disk, RECORDS, steps)?;
+    let mut disk = MemoryOutside::with_parts(alloc, half, &[0], &[], [].as_slice())?;
+    assert!(end; makes(alloc, &mut disk, 0, RECORDS, steps));
     assert!(end; is_closed(disk.part(Part::One), 0));
     Ok(Vec::from_slice(alloc, disk.part(Part::Zero))?)
+}
+
+// The last generation is followed by the first.
+fn last_leaves<L: Ledger>(alloc: Global, full: &[u8], steps: &mut Steps<L>) -> bool {
+    match changed(alloc, full, 16, 24, 255) {
+        Ok(half) => leaves(alloc, &half, &[0], FIRST_HEAD, steps),
+        Err(_) => false,
+    }
 }
 
 fn change_halves<L: Ledger>(
@@ -120,10 +137,10 @@ fn change_halves<L: Ledger>(
     end: &impl Abort,
     steps: &mut Steps<L>,
 ) -> Result<(), Fail> {
-    let half = full_half(alloc, end, steps)?;
-    assert!(end; leaves(alloc, &half, HEAD, NEXT_HEAD, steps)?);
-    let greatest = changed(alloc, &half, 16, 24, 255)?;
-    assert!(end; leaves(alloc, &greatest, &[0], FIRST_HEAD, steps)?);
+    let half = new_half(alloc)?;
+    let full = full_half(alloc, end, &half, steps)?;
+    assert!(end; leaves(alloc, &full, HEAD, NEXT_HEAD, steps));
+    assert!(end; last_leaves(alloc, &full, steps));
     Ok(())
 }
 

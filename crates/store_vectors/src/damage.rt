@@ -3,10 +3,10 @@
 ghost use Rattle.std.specs.Prelude.{◌≡◌};
 
 use crate::halves::{changed, half_with_folder, new_half, new_image, small_half_with_folder};
-use crate::images::image_of;
+use crate::opening::{Nothing, keeps, open};
 use fsrm_model::{Ledger, Steps, Weightless};
 use fsrm_outside::{MemoryOutside, Part};
-use fsrm_store::{Store, StoreFault};
+use fsrm_store::StoreFault;
 use std::alloc::Global;
 use std::marker::Brand;
 use std::process::Abort;
@@ -19,27 +19,37 @@ fn refusal<L: Ledger>(
     zero: &[u8],
     one: &[u8],
     steps: &mut Steps<L>,
-) -> Result<Option<StoreFault>, Fail> {
-    let mut disk = MemoryOutside::with_parts(alloc, zero, one, &[], [].as_slice())?;
-    Ok(Store::recover(alloc, &mut disk, steps).err())
+) -> Option<StoreFault> {
+    match MemoryOutside::with_parts(alloc, zero, one, &[], [].as_slice()) {
+        Ok(mut disk) => open(alloc, &mut disk, &mut Nothing, steps).err(),
+        Err(_) => Some(StoreFault::NoMemory),
+    }
 }
 
-fn damage(part: Part, place: u64) -> Option<StoreFault> {
-    Some(StoreFault::Damaged { part, place })
-}
-
-// Whether a store is refused for a damage of part 0 at a place.
 fn is_refused<L: Ledger>(
     alloc: Global,
     zero: &[u8],
-    place: u64,
+    one: &[u8],
+    fault: StoreFault,
     steps: &mut Steps<L>,
-) -> Result<bool, Fail> {
-    Ok(refusal(alloc, zero, &[0], steps)? == damage(Part::Zero, place))
+) -> bool {
+    refusal(alloc, zero, one, steps) == Some(fault)
 }
 
-// Of a new store: from which byte to before which one it is changed, to which byte, and the place that is told.
-const NEW_CHANGED: [(usize, usize, u8, u64); 8] = [
+// Whether a store is refused for a damage of part 0 at a place.
+fn is_damaged<L: Ledger>(alloc: Global, zero: &[u8], place: u64, steps: &mut Steps<L>) -> bool {
+    let fault = StoreFault::Damaged {
+        part: Part::Zero,
+        place,
+    };
+    is_refused(alloc, zero, &[0], fault, steps)
+}
+
+// From which byte to before which one a store is changed, to which byte, and the place that is told.
+type Change = (usize, usize, u8, u64);
+
+// The changes of a new store.
+const NEW: [Change; 8] = [
     (8, 9, 0, 8),
     (24, 25, 9, 24),
     (36, 37, 1, 36),
@@ -50,81 +60,81 @@ const NEW_CHANGED: [(usize, usize, u8, u64); 8] = [
     (56, 60, 255, 48),
 ];
 
-fn new_changed<L: Ledger>(
-    alloc: Global,
-    end: &impl Abort,
-    half: &[u8],
-    steps: &mut Steps<L>,
-) -> Result<(), Fail> {
-    for (from, to, byte, place) in NEW_CHANGED {
-        let bytes = changed(alloc, half, from, to, byte)?;
-        assert!(end; is_refused(alloc, &bytes, place, steps)?);
-    }
-    Ok(())
-}
-
-// Of a store with a record: the same, each of one byte.
-const RECORD_CHANGED: [(usize, u8, u64); 6] = [
-    (148, 0, 148),
-    (148, 22, 167),
-    (148, 24, 175),
-    (160, 200, 160),
-    (163, 69, 161),
-    (167, 0, 167),
+// Those of a store with a record.
+const RECORD: [Change; 6] = [
+    (148, 149, 0, 148),
+    (148, 149, 22, 167),
+    (148, 149, 24, 175),
+    (160, 161, 200, 160),
+    (163, 164, 69, 161),
+    (167, 168, 0, 167),
 ];
 
-fn record_changed<L: Ledger>(
-    alloc: Global,
-    end: &impl Abort,
-    half: &[u8],
-    steps: &mut Steps<L>,
-) -> Result<(), Fail> {
-    for (at, byte, place) in RECORD_CHANGED {
-        let bytes = changed(alloc, half, at, at + 1, byte)?;
-        assert!(end; is_refused(alloc, &bytes, place, steps)?);
+fn tells<L: Ledger>(alloc: Global, half: &[u8], change: Change, steps: &mut Steps<L>) -> bool {
+    let (from, to, byte, place) = change;
+    match changed(alloc, half, from, to, byte) {
+        Ok(bytes) => is_damaged(alloc, &bytes, place, steps),
+        Err(_) => false,
     }
-    Ok(())
 }
 
-// Part 0 has a front of its bytes alone.
-fn cut<L: Ledger>(
-    alloc: Global,
-    end: &impl Abort,
-    new: &[u8],
-    half: &[u8],
-    steps: &mut Steps<L>,
-) -> Result<(), Fail> {
-    assert!(end; new.len() == 148 && half.len() == 176);
-    assert!(end; is_refused(alloc, &new[..20], 16, steps)?);
-    assert!(end; is_refused(alloc, &new[..147], 147, steps)?);
-    assert!(end; is_refused(alloc, &half[..175], 175, steps)?);
-    Ok(())
+fn new_changed<L: Ledger>(alloc: Global, end: &impl Abort, half: &[u8], steps: &mut Steps<L>) {
+    for change in NEW {
+        assert!(end; tells(alloc, half, change, steps));
+    }
 }
 
-// Part 1 isn't there, is cut, or has the same generation. Part 0's gate is closed.
-fn other_part<L: Ledger>(
-    alloc: Global,
-    end: &impl Abort,
-    new: &[u8],
-    steps: &mut Steps<L>,
-) -> Result<(), Fail> {
-    assert!(end; refusal(alloc, new, &[], steps)? == damage(Part::One, 0));
-    assert!(end; refusal(alloc, new, &[1], steps)? == damage(Part::One, 1));
-    assert!(end; refusal(alloc, new, new, steps)? == damage(Part::One, 16));
-    let closed = changed(alloc, new, 0, 1, 0)?;
-    assert!(end; refusal(alloc, &closed, &[0], steps)? == Some(StoreFault::NoStore));
-    Ok(())
+fn record_changed<L: Ledger>(alloc: Global, end: &impl Abort, half: &[u8], steps: &mut Steps<L>) {
+    for change in RECORD {
+        assert!(end; tells(alloc, half, change, steps));
+    }
 }
 
-// The image of what a half holds.
-fn held_image<L: Ledger>(
+// Whether a store is refused at a place, of which part 0 has so many bytes alone.
+fn tells_cut<L: Ledger>(
     alloc: Global,
     half: &[u8],
+    len: usize,
+    place: u64,
     steps: &mut Steps<L>,
-) -> Result<Vec<u8>, Fail> {
-    let mut disk = MemoryOutside::with_parts(alloc, half, &[0], &[], [].as_slice())?;
-    let store = Store::recover(alloc, &mut disk, steps)?;
-    image_of(alloc, store.engine(), steps)
+) -> bool {
+    half.len() > len && is_damaged(alloc, &half[..len], place, steps)
+}
+
+fn cut<L: Ledger>(alloc: Global, end: &impl Abort, new: &[u8], half: &[u8], steps: &mut Steps<L>) {
+    assert!(end; tells_cut(alloc, new, 20, 16, steps));
+    assert!(end; tells_cut(alloc, new, 147, 147, steps));
+    assert!(end; tells_cut(alloc, half, 175, 175, steps));
+}
+
+// Whether a store is refused for a damage of part 1 at a place.
+fn is_beside<L: Ledger>(
+    alloc: Global,
+    zero: &[u8],
+    one: &[u8],
+    place: u64,
+    steps: &mut Steps<L>,
+) -> bool {
+    let fault = StoreFault::Damaged {
+        part: Part::One,
+        place,
+    };
+    is_refused(alloc, zero, one, fault, steps)
+}
+
+// Part 1 isn't there, is cut, or has the same generation.
+fn other_part<L: Ledger>(alloc: Global, end: &impl Abort, new: &[u8], steps: &mut Steps<L>) {
+    assert!(end; is_beside(alloc, new, &[], 0, steps));
+    assert!(end; is_beside(alloc, new, &[1], 1, steps));
+    assert!(end; is_beside(alloc, new, new, 16, steps));
+}
+
+// Whether a half is the image of a new store, and no record.
+fn is_new<L: Ledger>(alloc: Global, half: &[u8], image: &[u8], steps: &mut Steps<L>) -> bool {
+    match MemoryOutside::with_parts(alloc, half, &[0], &[], [].as_slice()) {
+        Ok(mut disk) => keeps(alloc, &mut disk, image, image, steps),
+        Err(_) => false,
+    }
 }
 
 // A gate that is neither 0 nor 1 is closed.
@@ -135,12 +145,12 @@ fn closed_gate<L: Ledger>(
     steps: &mut Steps<L>,
 ) -> Result<(), Fail> {
     let bytes = changed(alloc, half, 147, 148, 2)?;
-    let image = held_image(alloc, &bytes, steps)?;
-    assert!(end; image.as_slice() == new_image(alloc)?.as_slice());
+    let image = new_image(alloc)?;
+    assert!(end; is_new(alloc, &bytes, &image, steps));
     Ok(())
 }
 
-// Whether a fault tells of no store if the first byte closes the gate, and else of a damage of part 0 up to its end.
+// Whether a store is opened or a damage of part 0 is told up to its end, and no store if the first byte closes the gate.
 fn is_right(fault: Option<StoreFault>, is_open: bool, len: u64) -> bool {
     match fault {
         None => is_open,
@@ -155,27 +165,55 @@ fn is_right(fault: Option<StoreFault>, is_open: bool, len: u64) -> bool {
     }
 }
 
+// Whether a store is judged rightly that has another byte at a place.
+fn is_judged<L: Ledger>(
+    alloc: Global,
+    half: &[u8],
+    at: usize,
+    byte: u8,
+    steps: &mut Steps<L>,
+) -> bool {
+    match changed(alloc, half, at, at.saturating_add(1), byte) {
+        Ok(bytes) => is_right(
+            refusal(alloc, &bytes, &[0], steps),
+            at > 0 || byte == 1,
+            176,
+        ),
+        Err(_) => false,
+    }
+}
+
 fn byte_changed<L: Ledger>(
     alloc: Global,
     end: &impl Abort,
     half: &[u8],
     at: usize,
     steps: &mut Steps<L>,
-) -> Result<(), Fail> {
+) {
     for byte in [0, 1, 255] {
-        let bytes = changed(alloc, half, at, at.saturating_add(1), byte)?;
-        let fault = refusal(alloc, &bytes, &[0], steps)?;
-        assert!(end; is_right(fault, at > 0 || byte == 1, 176));
+        assert!(end; is_judged(alloc, half, at, byte, steps));
     }
-    Ok(())
 }
 
 // Each byte of a small store is changed in turn.
 fn each_byte<L: Ledger>(alloc: Global, end: &impl Abort, steps: &mut Steps<L>) -> Result<(), Fail> {
     let half = small_half_with_folder(alloc)?;
     for at in 0..176 {
-        byte_changed(alloc, end, &half, at, steps)?;
+        byte_changed(alloc, end, &half, at, steps);
     }
+    Ok(())
+}
+
+fn change_new<L: Ledger>(
+    alloc: Global,
+    end: &impl Abort,
+    new: &[u8],
+    steps: &mut Steps<L>,
+) -> Result<(), Fail> {
+    new_changed(alloc, end, new, steps);
+    other_part(alloc, end, new, steps);
+    let closed = changed(alloc, new, 0, 1, 0)?;
+    assert!(end; is_refused(alloc, &closed, &[0], StoreFault::NoStore, steps));
     Ok(())
 }
 
@@ -186,10 +224,9 @@ fn all_damage<L: Ledger>(
 ) -> Result<(), Fail> {
     let new = new_half(alloc)?;
     let half = half_with_folder(alloc)?;
-    new_changed(alloc, end, &new, steps)?;
-    record_changed(alloc, end, &half, steps)?;
-    cut(alloc, end, &new, &half, steps)?;
-    other_part(alloc, end, &new, steps)?;
+    change_new(alloc, end, &new, steps)?;
+    record_changed(alloc, end, &half, steps);
+    cut(alloc, end, &new, &half, steps);
     closed_gate(alloc, end, &half, steps)?;
     each_byte(alloc, end, steps)
 }

@@ -3,7 +3,7 @@
 ghost use Rattle.std.specs.Prelude.{◌≡◌};
 
 use crate::halves::small_half;
-use crate::scan::{calls, is_kept, run, states};
+use crate::scan::{calls, is_kept, run, run_whole};
 use fsrm_model::{Ledger, Steps, Weightless};
 use fsrm_outside::MemoryOutside;
 use fsrm_store::StoreFault;
@@ -20,22 +20,37 @@ fn is_kept_after<L: Ledger>(
     call: u64,
     states: &[Vec<u8>],
     steps: &mut Steps<L>,
-) -> Result<bool, Fail> {
-    let mut disk = MemoryOutside::with_parts(alloc, half, &[0], &[], [call].as_slice())?;
-    let mut done = 0;
-    let ended = run(alloc, &mut disk, &mut done, steps);
-    let is_told = ended == Err(StoreFault::DiskFault);
-    Ok(is_told && is_kept(alloc, &mut disk, states, done, steps)?)
+) -> bool {
+    let Ok(mut disk) = MemoryOutside::with_parts(alloc, half, &[0], &[], [call].as_slice()) else {
+        return false;
+    };
+    let (ended, done) = run(alloc, &mut disk, steps);
+    ended == Err(StoreFault::DiskFault) && is_kept(alloc, &mut disk, states, done, steps)
 }
 
-fn fail_each<L: Ledger>(alloc: Global, end: &impl Abort, steps: &mut Steps<L>) -> Result<(), Fail> {
-    let half = small_half(alloc)?;
-    let states = states(alloc, steps)?;
-    let calls = calls(alloc, &half, steps)?;
+fn fail_each<L: Ledger>(
+    alloc: Global,
+    end: &impl Abort,
+    half: &[u8],
+    states: &[Vec<u8>],
+    steps: &mut Steps<L>,
+) {
+    let calls = calls(alloc, half, steps);
     assert!(end; calls > 0);
     for call in 0..calls {
-        assert!(end; is_kept_after(alloc, &half, call + 1, &states, steps)?);
+        assert!(end; is_kept_after(alloc, half, call + 1, states, steps));
     }
+}
+
+fn run_script<L: Ledger>(
+    alloc: Global,
+    end: &impl Abort,
+    steps: &mut Steps<L>,
+) -> Result<(), Fail> {
+    let half = small_half(alloc)?;
+    let mut states = Vec::new(alloc);
+    run_whole(alloc, &half, &mut states, steps)?;
+    fail_each(alloc, end, &half, &states, steps);
     Ok(())
 }
 
@@ -45,7 +60,7 @@ fn faults<N: Named>(rt: &HostRuntime, end: &impl Abort, blank: Blank) -> Result<
     requires one { blank.parts ≡ 1 }
 {
     let mut steps = Steps::new(rt, Weightless::<N>::of(blank));
-    fail_each(rt.alloc(), end, &mut steps)
+    run_script(rt.alloc(), end, &mut steps)
 }
 
 #[test]

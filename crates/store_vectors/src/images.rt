@@ -5,6 +5,7 @@ ghost use Rattle.std.specs.List.{list_all};
 ghost use Rattle.image_codec.specs.Pieces.{pieces};
 ghost use Rattle.image_codec.specs.PiecesLeft.{piece_fits};
 
+use fsrm_base::NoMemory;
 use fsrm_engine::Engine;
 use fsrm_model::{Capacity, Ledger, ReportKind, Rows, Steps, Weightless};
 use image_codec::{CodecFault, ImageIn, ImageOut, image_len};
@@ -29,7 +30,7 @@ const NEW: [u8; 99] = [
 ];
 
 // What is written into buffers of one length, at most a hundred of them.
-fn written(alloc: Global, rows: &Rows, size: usize) -> Result<Vec<u8>, Fail>
+fn written(alloc: Global, rows: &Rows, size: usize) -> Result<Vec<u8>, NoMemory>
     requires { list_all piece_fits (pieces rows.now) ≡ true }
 {
     let mut buffer = vec![in alloc; 0; size]?;
@@ -43,7 +44,11 @@ fn written(alloc: Global, rows: &Rows, size: usize) -> Result<Vec<u8>, Fail>
 }
 
 // The rows of an engine.
-fn rows_of<L: Ledger>(alloc: Global, engine: &Engine, steps: &mut Steps<L>) -> Result<Rows, Fail>
+fn rows_of<L: Ledger>(
+    alloc: Global,
+    engine: &Engine,
+    steps: &mut Steps<L>,
+) -> Result<Rows, NoMemory>
     ensures { IfOk result (λ R. list_all piece_fits (pieces R) ≡ true) }
 {
     // These are called for their clauses: that the size and the rows are those of a store.
@@ -57,7 +62,7 @@ pub fn image_of<L: Ledger>(
     alloc: Global,
     engine: &Engine,
     steps: &mut Steps<L>,
-) -> Result<Vec<u8>, Fail> {
+) -> Result<Vec<u8>, NoMemory> {
     let rows = rows_of(alloc, engine, steps)?;
     written(alloc, &rows, 1_024)
 }
@@ -66,7 +71,7 @@ fn new_rows<L: Ledger>(alloc: Global, steps: &mut Steps<L>) -> Result<Rows, Fail
     ensures { IfOk result (λ R. list_all piece_fits (pieces R) ≡ true) }
 {
     let engine = Engine::new(alloc, SIZE)?;
-    rows_of(alloc, &engine, steps)
+    Ok(rows_of(alloc, &engine, steps)?)
 }
 
 fn is_written(alloc: Global, rows: &Rows, size: usize) -> Result<bool, Fail>

@@ -25,6 +25,8 @@ mod journals;
 #[cfg(test)]
 mod migration;
 #[cfg(test)]
+mod opening;
+#[cfg(test)]
 mod run_faults;
 #[cfg(test)]
 mod run_stops;

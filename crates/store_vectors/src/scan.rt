@@ -1,25 +1,16 @@
 //! A script with a scan, and then a checkpoint, over a store whose disk may fail.
 
-ghost use Rattle.std.specs.Prelude.{◌≡◌, [], true, OnOk};
-ghost use Rattle.fsrm_model.specs.store.Valued.{is_command};
 ghost use Rattle.fsrm_store.specs.Standing.{IsReady};
 
 use crate::images::image_of;
-use crate::taking::{checkpoint, take_all};
-use fsrm_engine::Engine;
-use fsrm_model::{Capacity, Ledger, Steps};
+use crate::opening::{Task, keeps, open};
+use crate::taking::{checkpoint, take, take_all};
+use fsrm_base::NoMemory;
+use fsrm_model::{Ledger, Steps};
 use fsrm_outside::{Disk, MemoryOutside};
 use fsrm_store::{Store, StoreFault};
 use std::alloc::Global;
 use std::test::Fail;
-use tool_commands::read_line;
-
-// The size of a small store.
-const SIZE: Capacity = Capacity {
-    nodes: 9,
-    names: 256,
-    cluster: 4_096,
-};
 
 // The scan finishes with the second step. The last line is refused.
 const SCRIPT: [&[u8]; 9] = [
@@ -34,58 +25,87 @@ const SCRIPT: [&[u8]; 9] = [
     b"104 create D:\\h\\d 1 1",
 ];
 
-// Has an engine take the command of a line.
-fn apply<L: Ledger>(alloc: Global, engine: &mut Engine, line: &[u8], steps: &mut Steps<L>) -> bool {
-    if engine.next_act().is_some() {
-        return false;
-    }
-    match read_line(alloc, line) {
-        Ok(Some(command)) => engine.apply(alloc, &command, steps).is_ok(),
-        Ok(None) => false,
-        Err(_) => false,
-    }
-}
-
-fn add_states<L: Ledger>(
+fn add_state<L: Ledger>(
     alloc: Global,
-    engine: &mut Engine,
+    store: &Store,
     states: &mut Vec<Vec<u8>>,
     steps: &mut Steps<L>,
-) -> Result<(), Fail> {
-    for line in SCRIPT {
-        states.push(image_of(alloc, engine, steps)?)?;
-        apply(alloc, engine, line, steps);
-    }
-    states.push(image_of(alloc, engine, steps)?)?;
+) -> Result<(), NoMemory> {
+    states.push(image_of(alloc, store.engine(), steps)?)?;
     Ok(())
 }
 
-/// The images of what is kept after no line, after one line, and so on.
-pub fn states<L: Ledger>(alloc: Global, steps: &mut Steps<L>) -> Result<Vec<Vec<u8>>, Fail> {
-    let mut states = Vec::new(alloc);
-    let mut engine = Engine::new(alloc, SIZE)?;
-    add_states(alloc, &mut engine, &mut states, steps)?;
-    Ok(states)
+fn add_states<D: Disk, L: Ledger>(
+    alloc: Global,
+    store: &mut Store,
+    disk: &mut D,
+    states: &mut Vec<Vec<u8>>,
+    steps: &mut Steps<L>,
+) -> Result<(), StoreFault>
+    requires ready { IsReady D.reads store.old.journal disk.old }
+{
+    for line in SCRIPT {
+        add_state(alloc, store, states, steps)?;
+        take(alloc, store, disk, line, steps)?;
+    }
+    add_state(alloc, store, states, steps)?;
+    Ok(())
 }
 
-fn is_state(states: &[Vec<u8>], number: usize, image: &[u8]) -> bool {
+// The images of what is kept after no line, after one line, and so on.
+#[derive(Drop)]
+struct States<'a> {
+    states: &'a mut Vec<Vec<u8>>,
+}
+
+impl<'a> Task for States<'a> {
+    fn run<D: Disk, L: Ledger>(
+        &mut self,
+        alloc: Global,
+        store: &mut Store,
+        disk: &mut D,
+        steps: &mut Steps<L>,
+    ) -> Result<(), StoreFault> {
+        add_states(alloc, store, disk, self.states, steps)
+    }
+}
+
+/// Adds the images of what a store keeps after no line, after one line, and so on, while no call of its disk fails.
+pub fn run_whole<L: Ledger>(
+    alloc: Global,
+    half: &[u8],
+    states: &mut Vec<Vec<u8>>,
+    steps: &mut Steps<L>,
+) -> Result<(), Fail> {
+    let mut disk = MemoryOutside::with_parts(alloc, half, &[0], &[], [].as_slice())?;
+    open(alloc, &mut disk, &mut States { states }, steps)?;
+    Ok(())
+}
+
+fn state_of(states: &[Vec<u8>], number: usize) -> &[u8] {
     match states.get(number) {
-        Some(state) => state.as_slice() == image,
-        None => false,
+        Some(state) => state.as_slice(),
+        None => &[],
     }
 }
 
 /// Whether the store on a disk holds all lines that were taken, and at most one line more.
-pub fn is_kept<L: Ledger>(
+pub fn is_kept<D: Disk, L: Ledger>(
     alloc: Global,
-    disk: &mut MemoryOutside,
+    disk: &mut D,
     states: &[Vec<u8>],
     done: usize,
     steps: &mut Steps<L>,
-) -> Result<bool, Fail> {
-    let store = Store::recover(alloc, disk, steps)?;
-    let image = image_of(alloc, store.engine(), steps)?;
-    Ok(is_state(states, done, &image) || is_state(states, done.saturating_add(1), &image))
+) -> bool {
+    let last = state_of(states, done);
+    let next = state_of(states, done.saturating_add(1));
+    keeps(alloc, disk, last, next, steps)
+}
+
+// The script and a checkpoint, until a call of the disk fails. It counts the lines that were taken.
+#[derive(Drop)]
+struct Script {
+    done: usize,
 }
 
 fn take_script<D: Disk, L: Ledger>(
@@ -101,36 +121,45 @@ fn take_script<D: Disk, L: Ledger>(
     checkpoint(store, disk, steps)
 }
 
-// How a run ended. `NoMemory` if the store isn't sound exactly if the run succeeded.
-fn told(store: &Store, ended: Result<(), StoreFault>) -> Result<(), StoreFault> {
-    if store.sound() == ended.is_ok() {
-        ended
-    } else {
-        Err(StoreFault::NoMemory)
+impl Task for Script {
+    // `NoMemory` if the store isn't sound exactly if all succeeded.
+    fn run<D: Disk, L: Ledger>(
+        &mut self,
+        alloc: Global,
+        store: &mut Store,
+        disk: &mut D,
+        steps: &mut Steps<L>,
+    ) -> Result<(), StoreFault> {
+        let ended = take_script(alloc, store, disk, &mut self.done, steps);
+        if store.sound() == ended.is_ok() {
+            ended
+        } else {
+            Err(StoreFault::NoMemory)
+        }
     }
 }
 
-/// Opens the store on a disk, and runs the script and a checkpoint, until a call of the disk fails. `done` counts the
-/// lines that were taken.
+/// Opens the store on a disk, and runs the script and a checkpoint. Answers how that ended, and how many lines were
+/// taken.
 pub fn run<D: Disk, L: Ledger>(
     alloc: Global,
     disk: &mut D,
-    done: &mut usize,
     steps: &mut Steps<L>,
-) -> Result<(), StoreFault> {
-    let mut store = Store::recover(alloc, disk, steps)?;
-    let ended = take_script(alloc, &mut store, disk, done, steps);
-    told(&store, ended)
+) -> (Result<(), StoreFault>, usize) {
+    let mut script = Script { done: 0 };
+    let ended = open(alloc, disk, &mut script, steps);
+    (ended, script.done)
 }
 
 /// How many calls of the disk a run makes that isn't stopped: 0 if it doesn't take each line.
-pub fn calls<L: Ledger>(alloc: Global, half: &[u8], steps: &mut Steps<L>) -> Result<u64, Fail> {
-    let mut disk = MemoryOutside::with_parts(alloc, half, &[0], &[], [].as_slice())?;
-    let mut done = 0;
-    run(alloc, &mut disk, &mut done, steps)?;
-    Ok(if done == SCRIPT.len() {
+pub fn calls<L: Ledger>(alloc: Global, half: &[u8], steps: &mut Steps<L>) -> u64 {
+    let Ok(mut disk) = MemoryOutside::with_parts(alloc, half, &[0], &[], [].as_slice()) else {
+        return 0;
+    };
+    let (ended, done) = run(alloc, &mut disk, steps);
+    if ended.is_ok() && done == SCRIPT.len() {
         disk.calls()
     } else {
         0
-    })
+    }
 }

@@ -3,7 +3,7 @@
 ghost use Rattle.std.specs.Prelude.{◌≡◌};
 
 use crate::halves::small_half;
-use crate::scan::{calls, is_kept, run, states};
+use crate::scan::{calls, is_kept, run, run_whole};
 use fsrm_model::{Ledger, Steps, Weightless};
 use fsrm_outside::{MemoryOutside, Pick};
 use fsrm_store::StoreFault;
@@ -21,14 +21,14 @@ fn is_kept_after<L: Ledger>(
     pick: Pick,
     states: &[Vec<u8>],
     steps: &mut Steps<L>,
-) -> Result<bool, Fail> {
-    let mut disk = MemoryOutside::with_parts(alloc, half, &[0], &[], [].as_slice())?;
+) -> bool {
+    let Ok(mut disk) = MemoryOutside::with_parts(alloc, half, &[0], &[], [].as_slice()) else {
+        return false;
+    };
     disk.stop_at(stop);
-    let mut done = 0;
-    let ended = run(alloc, &mut disk, &mut done, steps);
+    let (ended, done) = run(alloc, &mut disk, steps);
     disk.crash(pick);
-    let is_told = ended == Err(StoreFault::DiskFault);
-    Ok(is_told && is_kept(alloc, &mut disk, states, done, steps)?)
+    ended == Err(StoreFault::DiskFault) && is_kept(alloc, &mut disk, states, done, steps)
 }
 
 fn is_kept_by_each<L: Ledger>(
@@ -37,23 +37,38 @@ fn is_kept_by_each<L: Ledger>(
     stop: u64,
     states: &[Vec<u8>],
     steps: &mut Steps<L>,
-) -> Result<bool, Fail> {
+) -> bool {
     for pick in [Pick::Lost, Pick::Taken, Pick::Fill(1), Pick::Fill(255)] {
-        if !is_kept_after(alloc, half, stop, pick, states, steps)? {
-            return Ok(false);
+        if !is_kept_after(alloc, half, stop, pick, states, steps) {
+            return false;
         }
     }
-    Ok(true)
+    true
 }
 
-fn stop_each<L: Ledger>(alloc: Global, end: &impl Abort, steps: &mut Steps<L>) -> Result<(), Fail> {
-    let half = small_half(alloc)?;
-    let states = states(alloc, steps)?;
-    let calls = calls(alloc, &half, steps)?;
+fn stop_at_each<L: Ledger>(
+    alloc: Global,
+    end: &impl Abort,
+    half: &[u8],
+    states: &[Vec<u8>],
+    steps: &mut Steps<L>,
+) {
+    let calls = calls(alloc, half, steps);
     assert!(end; calls > 0);
     for call in 0..calls {
-        assert!(end; is_kept_by_each(alloc, &half, call + 1, &states, steps)?);
+        assert!(end; is_kept_by_each(alloc, half, call + 1, states, steps));
     }
+}
+
+fn run_script<L: Ledger>(
+    alloc: Global,
+    end: &impl Abort,
+    steps: &mut Steps<L>,
+) -> Result<(), Fail> {
+    let half = small_half(alloc)?;
+    let mut states = Vec::new(alloc);
+    run_whole(alloc, &half, &mut states, steps)?;
+    stop_at_each(alloc, end, &half, &states, steps);
     Ok(())
 }
 
@@ -63,7 +78,7 @@ fn stops<N: Named>(rt: &HostRuntime, end: &impl Abort, blank: Blank) -> Result<(
     requires one { blank.parts ≡ 1 }
 {
     let mut steps = Steps::new(rt, Weightless::<N>::of(blank));
-    stop_each(rt.alloc(), end, &mut steps)
+    run_script(rt.alloc(), end, &mut steps)
 }
 
 #[test]

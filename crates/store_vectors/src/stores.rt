@@ -4,7 +4,8 @@ ghost use Rattle.std.specs.Prelude.{◌≡◌, OnOk};
 ghost use Rattle.fsrm_store.specs.Standing.{IsReady};
 
 use crate::halves::new_half;
-use crate::taking::{checkpoint, may_take, take};
+use crate::opening::{Nothing, Task, open};
+use crate::taking::{checkpoint, may_take, set_group, take};
 use fsrm_model::{Capacity, Command, Deed, Ledger, Outcome, Steps, Weightless};
 use fsrm_outside::{Disk, MemoryOutside, Part};
 use fsrm_store::{Store, StoreFault};
@@ -22,20 +23,26 @@ const SIZE: Capacity = Capacity {
     cluster: 4_096,
 };
 
-fn made(alloc: Global, end: &impl Abort) -> Result<(), Fail> {
+// Whether a store is made where there was none, and no other after it.
+fn is_made<D: Disk>(alloc: Global, disk: &mut D) -> bool {
+    Store::init(alloc, disk, SIZE) == Ok(())
+        && Store::init(alloc, disk, SIZE) == Err(StoreFault::AlreadyStore)
+}
+
+fn make(alloc: Global, end: &impl Abort) -> Result<(), Fail> {
+    let half = new_half(alloc)?;
     let mut disk = MemoryOutside::new(alloc, &[], [].as_slice())?;
-    assert!(end; Store::init(alloc, &mut disk, SIZE) == Ok(()));
-    assert!(end; disk.part(Part::Zero) == new_half(alloc)?.as_slice());
+    assert!(end; is_made(alloc, &mut disk));
+    assert!(end; disk.part(Part::Zero) == half.as_slice());
     assert!(end; disk.part(Part::One) == [0].as_slice());
-    assert!(end; Store::init(alloc, &mut disk, SIZE) == Err(StoreFault::AlreadyStore));
     Ok(())
 }
 
-fn none<L: Ledger>(alloc: Global, end: &impl Abort, steps: &mut Steps<L>) -> Result<(), Fail> {
-    let mut disk = MemoryOutside::new(alloc, &[], [].as_slice())?;
-    let fault = Store::recover(alloc, &mut disk, steps).err();
-    assert!(end; fault == Some(StoreFault::NoStore));
-    Ok(())
+fn is_none<L: Ledger>(alloc: Global, steps: &mut Steps<L>) -> bool {
+    match MemoryOutside::new(alloc, &[], [].as_slice()) {
+        Ok(mut disk) => { open(alloc, &mut disk, &mut Nothing, steps) == Err(StoreFault::NoStore) }
+        Err(_) => false,
+    }
 }
 
 // Whether a store is new, and nothing is held.
@@ -58,7 +65,7 @@ fn hold<D: Disk, L: Ledger>(
     ensures ready { OnOk result (IsReady D.reads store.new.journal disk.new) }
 {
     let was_new = is_new(store);
-    store.set_group(alloc, 2)?;
+    set_group(alloc, store, 2)?;
     take(alloc, store, disk, QUOTA, steps)?;
     Ok(was_new && store.held() == 1)
 }
@@ -127,66 +134,83 @@ fn flush<D: Disk, L: Ledger>(
     Ok(was_held && store.held() == 0)
 }
 
-fn call_each<D: Disk, L: Ledger>(
-    alloc: Global,
-    store: &mut Store,
-    disk: &mut D,
-    steps: &mut Steps<L>,
-) -> Result<bool, StoreFault>
-    requires none { store.old.journal.held ≡ 0 }
-    requires ready { IsReady D.reads store.old.journal disk.old }
-{
-    let is_held = hold(alloc, store, disk, steps)?;
-    let is_full = fill(alloc, store, disk, steps)?;
-    let is_flushed = flush(alloc, store, disk, steps)?;
-    checkpoint(store, disk, steps)?;
-    Ok(is_held && is_full && is_flushed)
+// Each call, and whether it did what it should.
+#[derive(Drop)]
+struct Calls {
+    is_right: bool,
 }
 
-fn open<D: Disk, L: Ledger>(
-    alloc: Global,
-    disk: &mut D,
-    steps: &mut Steps<L>,
-) -> Result<bool, StoreFault> {
-    let mut store = Store::recover(alloc, disk, steps)?;
-    call_each(alloc, &mut store, disk, steps)
+impl Task for Calls {
+    fn run<D: Disk, L: Ledger>(
+        &mut self,
+        alloc: Global,
+        store: &mut Store,
+        disk: &mut D,
+        steps: &mut Steps<L>,
+    ) -> Result<(), StoreFault> {
+        let is_held = hold(alloc, store, disk, steps)?;
+        let is_full = fill(alloc, store, disk, steps)?;
+        let is_flushed = flush(alloc, store, disk, steps)?;
+        self.is_right = is_held && is_full && is_flushed;
+        checkpoint(store, disk, steps)
+    }
 }
 
-// Whether what was taken is there when the store is opened again.
-fn is_there<D: Disk, L: Ledger>(
-    alloc: Global,
-    disk: &mut D,
-    steps: &mut Steps<L>,
-) -> Result<bool, StoreFault> {
-    let store = Store::recover(alloc, disk, steps)?;
-    Ok(store.engine().used(0) == Some(8_192) && store.engine().tree().live(2))
+// Whether what was taken is there.
+#[derive(Drop)]
+struct There {
+    is_right: bool,
 }
 
-fn opened<L: Ledger>(alloc: Global, end: &impl Abort, steps: &mut Steps<L>) -> Result<(), Fail> {
+impl Task for There {
+    fn run<D: Disk, L: Ledger>(
+        &mut self,
+        _alloc: Global,
+        store: &mut Store,
+        _disk: &mut D,
+        _steps: &mut Steps<L>,
+    ) -> Result<(), StoreFault> {
+        let engine = store.engine();
+        self.is_right = engine.used(0) == Some(8_192) && engine.tree().live(2);
+        Ok(())
+    }
+}
+
+fn calls_succeed<D: Disk, L: Ledger>(alloc: Global, disk: &mut D, steps: &mut Steps<L>) -> bool {
+    let mut calls = Calls { is_right: false };
+    open(alloc, disk, &mut calls, steps).is_ok() && calls.is_right
+}
+
+fn is_there<D: Disk, L: Ledger>(alloc: Global, disk: &mut D, steps: &mut Steps<L>) -> bool {
+    let mut there = There { is_right: false };
+    open(alloc, disk, &mut there, steps).is_ok() && there.is_right
+}
+
+fn call_each<L: Ledger>(alloc: Global, end: &impl Abort, steps: &mut Steps<L>) -> Result<(), Fail> {
     let half = new_half(alloc)?;
     let mut disk = MemoryOutside::with_parts(alloc, &half, &[0], &[], [].as_slice())?;
-    assert!(end; open(alloc, &mut disk, steps) == Ok(true));
+    assert!(end; calls_succeed(alloc, &mut disk, steps));
     assert!(end; disk.part(Part::One).starts_with(&[1]));
-    assert!(end; is_there(alloc, &mut disk, steps) == Ok(true));
+    assert!(end; is_there(alloc, &mut disk, steps));
     Ok(())
 }
 
-fn calls<N: Named>(rt: &HostRuntime, end: &impl Abort, blank: Blank) -> Result<(), Fail>
+fn take_calls<N: Named>(rt: &HostRuntime, end: &impl Abort, blank: Blank) -> Result<(), Fail>
     requires name { blank.name ≡ N.name }
     requires parts { blank.parts ≡ N.parts }
     requires one { blank.parts ≡ 1 }
 {
     let mut steps = Steps::new(rt, Weightless::<N>::of(blank));
-    none(rt.alloc(), end, &mut steps)?;
-    opened(rt.alloc(), end, &mut steps)
+    assert!(end; is_none(rt.alloc(), &mut steps));
+    call_each(rt.alloc(), end, &mut steps)
 }
 
 #[test]
 fn a_store_is_made_once(rt: HostRuntime) -> Result<(), Fail> {
-    made(rt.alloc(), &rt)
+    make(rt.alloc(), &rt)
 }
 
 #[test]
 fn each_call_succeeds(rt: HostRuntime) -> Result<(), Fail> {
-    calls::<Brand>(&rt, &rt, Blank::new(1))
+    take_calls::<Brand>(&rt, &rt, Blank::new(1))
 }

@@ -1,11 +1,12 @@
 //! How often commands are made stable, one by one and in groups.
 
-ghost use Rattle.std.specs.Prelude.{◌≡◌, ◌≤◌};
+ghost use Rattle.std.specs.Prelude.{◌≡◌, OnOk};
 ghost use Rattle.fsrm_store.specs.Standing.{IsReady};
 
 use crate::halves::new_half;
-use crate::taking::take;
-use fsrm_model::{Ledger, Steps, Weightless};
+use crate::opening::{Task, open};
+use crate::taking::{set_group, take};
+use fsrm_model::{Ledger, Outcome, Steps, Weightless};
 use fsrm_outside::{CallKind, Disk, MemoryOutside};
 use fsrm_store::{Store, StoreFault};
 use std::alloc::Global;
@@ -13,6 +14,22 @@ use std::marker::Brand;
 use std::process::Abort;
 use std::sync::ledger::{Blank, Ledger as Named};
 use std::test::Fail;
+
+fn make_folder<D: Disk, L: Ledger>(
+    alloc: Global,
+    store: &mut Store,
+    disk: &mut D,
+    number: u32,
+    steps: &mut Steps<L>,
+) -> Result<Outcome, StoreFault>
+    requires ready { IsReady D.reads store.old.journal disk.old }
+    ensures ready { OnOk result (IsReady D.reads store.new.journal disk.new) }
+{
+    match format!(in alloc; "100 mkdir D:\\f{number} 1") {
+        Ok(line) => take(alloc, store, disk, line.as_bytes(), steps),
+        Err(_) => Err(StoreFault::NoMemory),
+    }
+}
 
 fn make_folders<D: Disk, L: Ledger>(
     alloc: Global,
@@ -23,27 +40,28 @@ fn make_folders<D: Disk, L: Ledger>(
     requires ready { IsReady D.reads store.old.journal disk.old }
 {
     for number in 0..64u32 {
-        let Ok(line) = format!(in alloc; "100 mkdir D:\\f{number} 1") else {
-            return Err(StoreFault::NoMemory);
-        };
-        take(alloc, store, disk, line.as_bytes(), steps)?;
+        make_folder(alloc, store, disk, number, steps)?;
     }
     Ok(())
 }
 
-// Opens the store on a disk, and makes 64 folders in groups of so many commands.
-fn run<D: Disk, L: Ledger>(
-    alloc: Global,
-    disk: &mut D,
+// 64 folders are made in groups of so many commands.
+#[derive(Drop)]
+struct Folders {
     group: u32,
-    steps: &mut Steps<L>,
-) -> Result<(), StoreFault>
-    requires some { 1 ≤ group }
-    requires most { group ≤ 1024 }
-{
-    let mut store = Store::recover(alloc, disk, steps)?;
-    store.set_group(alloc, group)?;
-    make_folders(alloc, &mut store, disk, steps)
+}
+
+impl Task for Folders {
+    fn run<D: Disk, L: Ledger>(
+        &mut self,
+        alloc: Global,
+        store: &mut Store,
+        disk: &mut D,
+        steps: &mut Steps<L>,
+    ) -> Result<(), StoreFault> {
+        set_group(alloc, store, self.group)?;
+        make_folders(alloc, store, disk, steps)
+    }
 }
 
 fn count_syncs(disk: &MemoryOutside) -> u64 {
@@ -56,18 +74,21 @@ fn count_syncs(disk: &MemoryOutside) -> u64 {
     count
 }
 
-fn syncs<L: Ledger>(
-    alloc: Global,
-    half: &[u8],
-    group: u32,
-    steps: &mut Steps<L>,
-) -> Result<u64, Fail>
-    requires some { 1 ≤ group }
-    requires most { group ≤ 1024 }
-{
-    let mut disk = MemoryOutside::with_parts(alloc, half, &[0], &[], [].as_slice())?;
-    run(alloc, &mut disk, group, steps)?;
-    Ok(count_syncs(&disk))
+fn syncs<L: Ledger>(alloc: Global, half: &[u8], group: u32, steps: &mut Steps<L>) -> u64 {
+    let Ok(mut disk) = MemoryOutside::with_parts(alloc, half, &[0], &[], [].as_slice()) else {
+        return 0;
+    };
+    match open(alloc, &mut disk, &mut Folders { group }, steps) {
+        Ok(()) => count_syncs(&disk),
+        Err(_) => 0,
+    }
+}
+
+fn count<L: Ledger>(alloc: Global, end: &impl Abort, steps: &mut Steps<L>) -> Result<(), Fail> {
+    let half = new_half(alloc)?;
+    assert!(end; syncs(alloc, &half, 1, steps) == 129);
+    assert!(end; syncs(alloc, &half, 32, steps) == 5);
+    Ok(())
 }
 
 fn groups<N: Named>(rt: &HostRuntime, end: &impl Abort, blank: Blank) -> Result<(), Fail>
@@ -76,10 +97,7 @@ fn groups<N: Named>(rt: &HostRuntime, end: &impl Abort, blank: Blank) -> Result<
     requires one { blank.parts ≡ 1 }
 {
     let mut steps = Steps::new(rt, Weightless::<N>::of(blank));
-    let half = new_half(rt.alloc())?;
-    assert!(end; syncs(rt.alloc(), &half, 1, &mut steps)? == 129);
-    assert!(end; syncs(rt.alloc(), &half, 32, &mut steps)? == 5);
-    Ok(())
+    count(rt.alloc(), end, &mut steps)
 }
 
 // One of them is made when the store is opened. A command alone takes two, and so does a group.

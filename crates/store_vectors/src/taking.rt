@@ -1,7 +1,7 @@
 //! Stores that take the commands of lines.
 
 ghost use Rattle.std.specs.Prelude.{◌≡◌, [], true, false, OnOk};
-ghost use Rattle.fsrm_store.specs.Standing.{IsReady};
+ghost use Rattle.fsrm_store.specs.Standing.{IsReady, StandsAlike};
 
 use fsrm_model::{Ledger, Outcome, Steps};
 use fsrm_outside::Disk;
@@ -72,4 +72,16 @@ pub fn checkpoint<D: Disk, L: Ledger>(
         return Err(StoreFault::NoMemory);
     }
     store.checkpoint(disk, steps)
+}
+
+/// Has groups of so many commands be made stable at once. `NoMemory` also if that is too few or too many.
+pub fn set_group(alloc: Global, store: &mut Store, group: u32) -> Result<(), StoreFault>
+    requires none { store.old.journal.held ≡ 0 }
+    ensures stands { OnOk result (StandsAlike store.old store.new) }
+{
+    if group == 0 || group > 1_024 {
+        return Err(StoreFault::NoMemory);
+    }
+    store.set_group(alloc, group)?;
+    Ok(())
 }
