@@ -1,0 +1,14 @@
+pub mod Sorting
+pub mod Grouping
+pub mod WalkLaws
+pub mod ByNumber
+pub mod MarkLaws
+pub mod Shown
+pub mod CourseLaws
+pub mod TableLaws
+pub mod FileGroups
+pub mod FitLaws
+pub mod TypeLaws
+pub mod SeenKeys
+pub mod Weak
+pub mod QuotaLaws

@@ -1,0 +1,9 @@
+pub mod Ranks
+pub mod Groups
+pub mod Files
+pub mod Reports
+pub mod Quotas
+pub mod Doubles
+pub mod ReportText
+pub mod Worked
+pub mod Walk
