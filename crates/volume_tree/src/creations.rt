@@ -124,7 +124,8 @@ impl Tree {
         ensures looks { steps.new ≤ steps.old + 21 }
     {
         let size = self.size;
-        let place = match search_new(&self.slots, &self.order, folder, name, steps) {
+        let known = self.hints.may_know(folder, name);
+        let place = match search_new(&self.slots, &self.order, folder, name, known, steps) {
             Ok(_) => return Err(TreeFault::AlreadyExists),
             Err(place) => place,
         };

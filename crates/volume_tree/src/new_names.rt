@@ -115,13 +115,14 @@ fn vacant<L: Ledger>(
     Some(place)
 }
 
-/// The same as `order::search`, quicker for a name that is new and comes behind those that begin as it does. It takes a
-/// look, and no more than 21.
+/// The same as `order::search`, quicker for a name that is new and comes behind those that begin as it does. That isn't
+/// tried if the name seems to be known. It takes a look, and no more than 21.
 pub fn search_new<L: Ledger>(
     slots: &NodeTable,
     order: &Order,
     folder: u32,
     name: &str,
+    known: bool,
     steps: &mut Steps<L>,
 ) -> Result<Place, Place>
     requires slots { AreSlots 0 slots.now.slots }
@@ -134,7 +135,7 @@ pub fn search_new<L: Ledger>(
     ensures some { steps.old + 1 ≤ steps.new }
     ensures looks { steps.new ≤ steps.old + 21 }
 {
-    if order.run_count() >= MANY_RUNS {
+    if known || order.run_count() >= MANY_RUNS {
         return search(slots, order, folder, name, steps);
     }
     match vacant(slots, order, folder, name, steps) {

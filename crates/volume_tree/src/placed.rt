@@ -51,3 +51,20 @@ pub fn compare(a: &Placed<'_>, b: &Placed<'_>) -> Ordering
     }
     ours.cmp(&theirs)
 }
+
+/// How two rows compare by folders and first characters, and where these are the same by numbers. That is how their
+/// places compare, unless names that begin alike were given in another order. No name is read for it.
+#[inline]
+pub fn compare_unread(a: &Placed<'_>, b: &Placed<'_>) -> Ordering {
+    let (ours, theirs) = (a.key(), b.key());
+    if ours == theirs {
+        return a.entry.node.cmp(&b.entry.node);
+    }
+    ours.cmp(&theirs)
+}
+
+/// Whether two rows have one folder, and names that begin alike.
+#[inline]
+pub fn is_alike(a: &Placed<'_>, b: &Placed<'_>) -> bool {
+    a.key() == b.key()
+}

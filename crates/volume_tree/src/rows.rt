@@ -13,8 +13,8 @@ ghost use Rattle.volume_tree.specs.Sound.{AreMarks, HasTwins, Reaches, are_from,
 ghost use Rattle.fsrm_model.specs.store.Capacities.{is_capacity};
 
 use crate::answer::RowsFault;
-use crate::entries::{Entry, Order};
-use crate::placed::{Placed, compare};
+use crate::entries::Order;
+use crate::placed::{Placed, compare, compare_unread, is_alike};
 use crate::slots::{holes_in, is_there, row};
 use fsrm_model::limits::{LATEST_MOMENT, LONGEST_FILE};
 use fsrm_model::{Capacity, NoMemory, NodeRow};
@@ -322,11 +322,11 @@ fn order_of(alloc: Global, rows: &[NodeRow], room: u32) -> Result<Order, RowsFau
     ensures room { IfOk result (λ order. order.room ≡ room) }
     ensures bad { IsErrOf result RowsFault.BadRows → HasTwins rows.now }
 {
-    let entries = match sorted(alloc, rows) {
+    let mut entries = match inner(alloc, rows) {
         Ok(entries) => entries,
         Err(NoMemory) => return Err(RowsFault::NoMemory),
     };
-    if !are_apart(&entries) {
+    if !put_in_order(&mut entries) {
         return Err(RowsFault::BadRows);
     }
     match listed(alloc, &entries, room) {
@@ -335,16 +335,54 @@ fn order_of(alloc: Global, rows: &[NodeRow], room: u32) -> Result<Order, RowsFau
     }
 }
 
-// All rows but the root, by folders and in each folder by folded names.
-fn sorted(alloc: Global, rows: &[NodeRow]) -> Result<Vec<Placed<'_>>, NoMemory>
-    ensures all { IfOk result (λ entries. IsPermutation (inner rows.now) (map (λ p. p.row.now) entries.items)) }
-    ensures sorted { IfOk result (λ entries. IsSortedBy (λ a b. is_before a.row.now b.row.now.parent b.row.now.name) entries.items) }
+// Sorts rows by folders and in each folder by folded names. Answers whether each stands before the next. A name is far
+// from the next one in memory: so rows are sorted without a look at their names first, and then those by their names
+// that begin alike, unless these were given in their order.
+fn put_in_order(entries: &mut [Placed<'_>]) -> bool
+    ensures all { IsPermutation entries.old entries.new }
+    ensures apart { IsAllAdjacentAnswer (λ a b answer. answer ≡ is_before a.row.now b.row.now.parent b.row.now.name) entries.new result }
+    ensures sorted { result ≡ false → IsSortedBy (λ a b. is_before a.row.now b.row.now.parent b.row.now.name) entries.new }
 {
-    let mut entries = inner(alloc, rows)?;
+    entries.sort_unstable_by(|a, b| compare_unread(a, b));
+    if are_apart(entries) {
+        return true;
+    }
+    sort_alike(entries);
+    if are_apart(entries) {
+        return true;
+    }
+    // Two names are the same.
     entries.sort_unstable_by(|a, b| compare(a, b));
-    Ok(entries)
+    are_apart(entries)
 }
 
+// Sorts neighbours by their names that have one folder and begin alike.
+fn sort_alike(entries: &mut [Placed<'_>])
+    ensures { IsPermutation entries.old entries.new }
+{
+    let mut from = 0;
+    while from < entries.len() {
+        let end = alike_end(entries, from);
+        entries[from..end].sort_unstable_by(|a, b| compare(a, b));
+        from = end;
+    }
+}
+
+// Where the rows end that begin as this one does, in the same folder.
+fn alike_end(entries: &[Placed<'_>], from: usize) -> usize
+    requires { from < length entries.now }
+    ensures more { from < result }
+    ensures within { result ≤ length entries.now }
+{
+    let first = entries[from];
+    let mut end = from + 1;
+    while end < entries.len() && is_alike(&entries[end], &first) {
+        end += 1;
+    }
+    end
+}
+
+// All rows but the root.
 fn inner(alloc: Global, rows: &[NodeRow]) -> Result<Vec<Placed<'_>>, NoMemory>
     ensures { IfOk result (λ entries. map (λ p. p.row.now) entries.items ≡ inner rows.now) }
 {
@@ -370,8 +408,9 @@ fn listed(alloc: Global, rows: &[Placed<'_>], room: u32) -> Result<Order, NoMemo
     ensures entries { IfOk result (λ order. order.entries ≡ map (λ p. entry_of p.row.now) rows.now) }
     ensures room { IfOk result (λ order. order.room ≡ room) }
 {
-    let entries: Vec<Entry> = rows.iter().map(|placed| placed.entry).collect(alloc)?;
     let mut order = Order::reserve(alloc, room)?;
-    order.extend_from_slice(&entries);
+    for placed in rows {
+        order.extend_from_slice(&[placed.entry]);
+    }
     Ok(order)
 }
