@@ -12,6 +12,8 @@ pub mod Orderly
 pub mod OrderlyLaws
 pub mod QuotaCommands
 pub mod QuotaLaws
+pub mod ReportCommands
+pub mod ReportLaws
 pub mod ScanCommands
 pub mod StepActs
 pub mod TemplateCommands

@@ -7,8 +7,10 @@ pub mod LineValues
 pub mod OptionLaws
 pub mod PathLaws
 pub mod ReadLaws
+pub mod ReportWordLaws
 pub mod SoundValues
 pub mod SpelledOptions
+pub mod SpelledReports
 pub mod SpelledScreens
 pub mod SpelledTemplates
 pub mod SpelledValues

@@ -1,5 +1,6 @@
 pub mod CapacityLaws
 pub mod ComingQuotas
+pub mod JobsKept
 pub mod NamesApart
 pub mod QueueKept
 pub mod QuotasKept

@@ -1,5 +1,6 @@
 pub mod values
 pub mod nodes
+pub mod reports
 pub mod objects
 pub mod commands
 pub mod lines

@@ -7,6 +7,7 @@ pub mod AutoWork
 pub mod GroupWork
 pub mod ScreenWork
 pub mod ScanWork
+pub mod ReportWork
 pub mod AdminWork
 pub mod Entry
 pub mod CommandForm

@@ -7,3 +7,4 @@ pub mod Receives
 pub mod Exceptions
 pub mod Named
 pub mod Spelling
+pub mod RunsJob

@@ -5,6 +5,7 @@ pub mod Reached
 pub mod Templates
 pub mod AutoApply
 pub mod Screens
+pub mod Jobs
 pub mod Scan
 pub mod Acts
 pub mod DueActions

@@ -4,4 +4,6 @@ pub mod ActText
 pub mod TemplateText
 pub mod ScreenText
 pub mod SettingsText
+pub mod ReportWords
+pub mod ReportText
 pub mod Text

@@ -5,7 +5,8 @@ ghost use Rattle.fsrm_model.specs.objects.Acts.{folder_in, percent_in};
 
 use crate::boxed::Boxed;
 use crate::path::Path;
-use crate::row::{Action, ActionKind};
+use crate::report::ReportAsk;
+use crate::row::{Action, ActionKind, Filter, ReportKind};
 use fsrm_base::{List, Text};
 
 /// Why a command is refused. A refused command changes nothing, with two exceptions. A name that a screen blocks leaves
@@ -34,12 +35,13 @@ pub enum Refusal {
     /// A path, or a path without its last name, leads to nothing of the kind that is wanted (MS-FSRM,
     /// FSRM_E_PATH_NOT_FOUND).
     PathNotFound,
-    /// The folder has no such object; no template or no file group has the name; or what is to be removed, a threshold
-    /// of a quota or a template or a file group of a screen, isn't there or is named twice (MS-FSRM, FSRM_E_NOT_FOUND).
+    /// The folder has no such object; no template, no file group or no report job has the name; or what is to be removed,
+    /// a threshold of a quota or a template or a file group of a screen, isn't there or is named twice (MS-FSRM,
+    /// FSRM_E_NOT_FOUND).
     NotFound,
     /// The place is taken, or the folder has such an object (MS-FSRM, FSRM_E_ALREADY_EXISTS).
     AlreadyExists,
-    /// A template or a file group has the name, in some spelling (MS-FSRM, FSRM_E_DUPLICATE_NAME).
+    /// A template, a file group or a report job has the name, in some spelling (MS-FSRM, FSRM_E_DUPLICATE_NAME).
     DuplicateName,
     /// An auto-apply quota names the template, or a screen or an exception the file group.
     InUse,
@@ -56,8 +58,8 @@ pub enum Refusal {
     VolumeFull,
     /// The names of all nodes would have more bytes than the store may hold.
     NamesFull,
-    /// There would be more than 4,096 quotas, screens or exceptions, or more than 1,024 templates, auto-apply quotas or
-    /// file groups.
+    /// There would be more than 4,096 quotas, screens or exceptions, more than 1,024 templates, auto-apply quotas or file
+    /// groups, or more than 256 report jobs.
     TableFull,
     /// The texts of all objects would have more than 4,194,304 bytes.
     TextsFull,
@@ -301,6 +303,41 @@ pub enum ExceptionDeed {
     List,
 }
 
+/// A report that is to be made once.
+#[derive(Drop)]
+pub struct NewReport {
+    pub kind: ReportKind,
+    /// Leads to the folder that it reports on.
+    pub scope: Path,
+    pub filter: Filter,
+}
+
+/// A report job that is to be made. A schedule that isn't given is empty.
+#[derive(Drop)]
+pub struct NewJob {
+    pub name: Text,
+    pub kind: ReportKind,
+    /// Leads to the folder that its reports are on.
+    pub scope: Path,
+    pub schedule: Option<Text>,
+    pub filter: Filter,
+}
+
+/// What a command on reports is to do.
+#[derive(Drop)]
+pub enum ReportsDeed {
+    /// Makes a report, and keeps nothing of it (MS-FSRM, IFsrmReportManager).
+    Generate(NewReport),
+    /// Makes a report job (MS-FSRM, IFsrmReportManager, CreateReportJob).
+    Add(NewJob),
+    /// Takes a report job away (MS-FSRM, IFsrmObject, Delete).
+    Delete { name: Text },
+    /// Makes a job's report. The job's last run is now (MS-FSRM, IFsrmReportJob, Run).
+    Run { name: Text },
+    /// Lists all report jobs.
+    List,
+}
+
 /// What a command on the service as a whole is to do.
 #[derive(Drop)]
 pub enum AdminDeed {
@@ -329,6 +366,7 @@ pub enum Deed {
     Filegroup(Boxed<FilegroupDeed>),
     Screen(Boxed<ScreenDeed>),
     Exception(Boxed<ExceptionDeed>),
+    Reports(Boxed<ReportsDeed>),
     Admin(AdminDeed),
 }
 
@@ -364,6 +402,8 @@ pub enum Ask {
     Screens,
     /// All exceptions.
     Excepts,
+    /// All report jobs.
+    Jobs,
     /// The run limit, the scans that wait, and how full the store is.
     Settings,
     /// The log of actions.
@@ -383,6 +423,8 @@ pub enum Outcome {
         bytes: u64,
     },
     Listing(Ask),
+    /// A report is to be shown, of the rows as the command leaves them. It is boxed, since it is rare and large.
+    Report(Boxed<ReportAsk>),
     /// How many folders the scan of `folder` visited, and, if it is finished, the bytes that the files at and below
     /// that folder take.
     Scanned {

@@ -8,15 +8,18 @@ ghost use Rattle.fsrm_model.specs.declared.command.Added.{Added};
 ghost use Rattle.fsrm_model.specs.declared.command.Command.{Command};
 ghost use Rattle.fsrm_model.specs.declared.command.Deed.{Deed};
 ghost use Rattle.fsrm_model.specs.declared.command.AutoquotaDeed.TheVariants.{Add as AutoquotaAdd};
-ghost use Rattle.fsrm_model.specs.declared.command.Deed.TheVariants.{File, Step, Template, Autoquota};
+ghost use Rattle.fsrm_model.specs.declared.command.Deed.TheVariants.{File, Step, Template, Autoquota, Reports};
 ghost use Rattle.fsrm_model.specs.declared.command.Entry.{Entry};
 ghost use Rattle.fsrm_model.specs.declared.command.Entry.TheVariants.{Finish};
 ghost use Rattle.fsrm_model.specs.declared.command.FileOp.{FileOp};
 ghost use Rattle.fsrm_model.specs.declared.command.FileOp.TheVariants.{Mkdir, Move};
 ghost use Rattle.fsrm_model.specs.declared.command.NewAutoquota.{NewAutoquota};
+ghost use Rattle.fsrm_model.specs.declared.command.NewReport.{NewReport};
 ghost use Rattle.fsrm_model.specs.declared.command.Outcome.TheVariants.{Done, Refused, Scanned, Sum};
 ghost use Rattle.fsrm_model.specs.declared.command.Refusal.{Refusal};
 ghost use Rattle.fsrm_model.specs.declared.command.Refusal.TheVariants.{ScreenBlocked, QuotaExceeded};
+ghost use Rattle.fsrm_model.specs.declared.command.ReportsDeed.{ReportsDeed};
+ghost use Rattle.fsrm_model.specs.declared.command.ReportsDeed.TheVariants.{Generate as ReportsGenerate, Run as ReportsRun};
 ghost use Rattle.fsrm_model.specs.declared.command.Subject.{Subject};
 ghost use Rattle.fsrm_model.specs.declared.command.Subject.TheVariants.{Quota};
 ghost use Rattle.fsrm_model.specs.declared.command.TemplateChange.{TemplateChange};
@@ -54,6 +57,7 @@ ghost use Rattle.fsrm_model.specs.objects.Quota.{folder_of, quota_of, counts, ex
 ghost use Rattle.fsrm_model.specs.meaning.Raises.{are_ascending, Raises, RaisesRefused, RunsOfScreen};
 ghost use Rattle.fsrm_model.specs.objects.Reached.{reached, IsReached, crossed};
 ghost use Rattle.fsrm_model.specs.meaning.Receives.{Modifies, with_auto, moved_folder, Gives};
+ghost use Rattle.fsrm_model.specs.meaning.RunsJob.{RunsJob};
 ghost use Rattle.fsrm_model.specs.store.OldReplays.{AreOldEntries, old_replayed};
 ghost use Rattle.fsrm_model.specs.objects.QuotaStates.{head};
 ghost use Rattle.fsrm_model.specs.store.Replays.{finish, finish_acts, after_entry, replayed, recovered, is_scan_step, lasts, journal_entry, command_entries, entries_from, is_valid_entry, none_rebuilding, IsJournaled};
@@ -70,12 +74,13 @@ ghost use Rattle.fsrm_model.specs.texts.Text.{reply};
 ghost use Rattle.fsrm_model.specs.objects.Thresholds.{percent_of, actions_at, is_percent, is_notice, are_too_many, are_thresholds, actions_given, changed_thresholds};
 ghost use Rattle.fsrm_model.specs.nodes.Tree.{number, fresh, under, usage};
 ghost use Rattle.fsrm_model.specs.store.Valid.{is_tree, IsVolume, are_quotas, AreQuotas, are_tables, AreTables, is_empty, is_valid, IsValid};
-ghost use Rattle.fsrm_model.specs.worked.ValidRows.{valid_rows, wrong_nodes, wrong_quotas, valid_thresholds, wrong_thresholds, valid_screens, wrong_screens, valid_templates, wrong_templates, wrong_tables, wrong_queues, wrong_unvisited};
+ghost use Rattle.fsrm_model.specs.worked.ValidRows.{valid_rows, wrong_nodes, wrong_quotas, valid_thresholds, wrong_thresholds, valid_screens, wrong_screens, valid_templates, wrong_templates, valid_jobs, wrong_jobs, wrong_tables, wrong_queues, wrong_unvisited};
 ghost use Rattle.fsrm_model.specs.store.Valued.{is_command};
 ghost use Rattle.fsrm_model.specs.store.ValidScans.{is_queue, IsQueue, are_left, AreLeft};
 ghost use Rattle.fsrm_model.specs.worked.WorkedThresholds.{run_limit, scan_ends_above, refused_writes, refused_below, refused_above, refused_move, acts_in_order, changed_quotas, run_limit_setting, threshold_options, threshold_values, long_lists, refused_then};
 ghost use Rattle.fsrm_model.specs.commands.Work.{Judged};
 ghost use Rattle.fsrm_model.specs.worked.WorkedReplays.{unfinished_scan, finished_scan, finished_action, refused_write};
+ghost use Rattle.fsrm_model.specs.worked.WorkedReports.{four_reports, audit_report, job_life, report_refusals, lasting_reports, jobs_gone, report_words, report_values, long_schedules, job_rows};
 ghost use Rattle.fsrm_model.specs.worked.WorkedScreens.{members_and_others, blocked_entry, exceptions, exception_above, beside_quotas, nearest_screens, screens_and_quotas, reported_entries, moves_judged, move_entries, groups_and_lists, screens_gone, screen_words, many_patterns, folded_patterns};
 ghost use Rattle.fsrm_model.specs.worked.WorkedTemplates.{auto_apply, template_update, derived_quotas, matching, matching_again, runs_forgotten, update_acts, templates_gone, auto_folders, auto_moves, auto_spelled, auto_and_quotas, auto_scans, templates_and_lists, crowded_templates, template_words};
 ghost use Rattle.fsrm_model.specs.worked.WorkedRows.{nothing_done, first_files, clock, moves, bad_lines, words_apart, root_and_places, few_nodes, few_name_bytes, folded_names, rounded_usage, large_clusters, small_clusters, nested_quotas, up_to_the_limit, above_the_limit, move_below_a_quota, scan_in_steps, visited_again, out_and_back, out_for_good, scan_refusals, scans_in_turn, quota_options, quota_limits, quota_peaks, quotas_gone};
@@ -167,6 +172,20 @@ pub fn worked_templates()
     ensures words { template_words }
 {}
 
+/// The plain machine's text of worked scripts, and the rows of jobs, of reports and report jobs.
+pub fn worked_reports()
+    ensures reports { four_reports }
+    ensures audit { audit_report }
+    ensures life { job_life }
+    ensures refusals { report_refusals }
+    ensures lasting { lasting_reports }
+    ensures gone { jobs_gone }
+    ensures words { report_words }
+    ensures values { report_values }
+    ensures schedules { long_schedules }
+    ensures rows { job_rows }
+{}
+
 /// The plain machine's text of worked scripts over what is recovered.
 pub fn worked_replays()
     ensures unfinished { unfinished_scan }
@@ -217,6 +236,16 @@ pub fn templates()
     ensures made { (K : Capacity) (R : Rows) (c : Command) (path : List (List ℕ)) (owner : ℕ) → c.deed ≡ File (Mkdir path owner) → is_accepted (step K R c).outcome ≡ true → Gives K R (record R { nodes = plain R.nodes (Mkdir path owner) c.moment }) c (fresh R.nodes ∷ []) }
     ensures moved { (K : Capacity) (R : Rows) (c : Command) (from to : List (List ℕ)) → c.deed ≡ File (Move from to) → is_accepted (step K R c).outcome ≡ true → Gives K R (record R { nodes = plain R.nodes (Move from to) c.moment }) c (moved_folder R.nodes from) }
     ensures added { (K : Capacity) (R : Rows) (c : Command) (new : NewAutoquota) → IsValid K R → c.deed ≡ Autoquota (AutoquotaAdd new) → is_accepted (step K R c).outcome ≡ true → Gives K R (with_auto R new) c (subfolders R.nodes (target R.nodes new.path)) }
+{}
+
+/// What the commands on reports and report jobs do.
+pub fn reports()
+    // An accepted run makes the report of the job of that name. The job's last run is the command's moment from then on,
+    // and each other job stays as it was.
+    ensures ran { (K : Capacity) (R : Rows) (c : Command) (name : List ℕ) → IsValid K R → c.deed ≡ Reports (ReportsRun name) → is_accepted (step K R c).outcome ≡ true → RunsJob K R c name }
+    // A report that is made once changes nothing, and no such command does that is refused.
+    ensures once { (K : Capacity) (R : Rows) (c : Command) (new : NewReport) → c.deed ≡ Reports (ReportsGenerate new) → (step K R c).rows ≡ R }
+    ensures refused { (K : Capacity) (R : Rows) (c : Command) (deed : ReportsDeed) (refusal : Refusal) → IsValid K R → c.deed ≡ Reports deed → (step K R c).outcome ≡ Refused refusal → (step K R c).rows ≡ R }
 {}
 
 /// What a line is read as is what it spells, and a line that spells a command is read as it. The command is valid.
@@ -417,6 +446,8 @@ pub fn valid_rows()
     ensures wrong_screens { wrong_screens }
     ensures templates { valid_templates }
     ensures wrong_templates { wrong_templates }
+    ensures jobs { valid_jobs }
+    ensures wrong_jobs { wrong_jobs }
     ensures tables { wrong_tables }
     ensures queues { wrong_queues }
     ensures unvisited { wrong_unvisited }

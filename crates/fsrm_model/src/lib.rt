@@ -18,13 +18,13 @@ pub mod space;
 pub use boxed::Boxed;
 pub use command::{
     Act, Added, AdminDeed, Answer, Ask, AutoquotaDeed, Command, Deed, Entry, ExceptionDeed, FileOp,
-    FilegroupChange, FilegroupDeed, NewAutoquota, NewException, NewFilegroup, NewQuota, NewScreen,
-    NewTemplate, NewThresholds, Outcome, QuotaChange, QuotaDeed, Refusal, ScreenChange, ScreenDeed,
-    Subject, TemplateChange, TemplateDeed, Update,
+    FilegroupChange, FilegroupDeed, NewAutoquota, NewException, NewFilegroup, NewJob, NewQuota,
+    NewReport, NewScreen, NewTemplate, NewThresholds, Outcome, QuotaChange, QuotaDeed, Refusal,
+    ReportsDeed, ScreenChange, ScreenDeed, Subject, TemplateChange, TemplateDeed, Update,
 };
 pub use fsrm_base::{Duplicate, Ledger, List, NoMemory, Steps, Text, Weightless, WeightlessPage};
 pub use path::{Names, Path};
-pub use report::{ReportRow, Table};
+pub use report::{FileList, Report, ReportAsk, ReportRow, Sums, Table};
 pub use row::{
     ActRow, Action, ActionKind, AuditRow, AutoRow, Capacity, ExceptRow, Filter, GroupRow, JobRow,
     NodeRow, QuotaRow, QuotaState, ReportKind, Rows, ScreenRow, TemplateRow, Threshold,

@@ -2,7 +2,7 @@
 //! definitions.
 
 ghost use Rattle.std.specs.Prelude.{◌≡◌};
-ghost use Rattle.fsrm_model.specs.values.Limits.{latest_moment, longest_file, last_owner, longest_line, longest_path, longest_entry, longest_script, longest_name, most_nodes, most_names, least_limit, greatest_limit, most_quotas, greatest_percent, most_thresholds, most_actions, longest_action_text, most_minutes, most_entries, most_templates, most_autos, most_excluded, most_groups, most_patterns, most_screens, most_excepts, most_screen_groups, most_text_bytes, most_visits};
+ghost use Rattle.fsrm_model.specs.values.Limits.{latest_moment, longest_file, last_owner, longest_line, longest_path, longest_entry, longest_script, longest_name, most_nodes, most_names, least_limit, greatest_limit, most_quotas, greatest_percent, most_thresholds, most_actions, longest_action_text, most_minutes, most_entries, most_templates, most_autos, most_excluded, most_groups, most_patterns, most_screens, most_excepts, most_screen_groups, most_text_bytes, most_visits, most_jobs, longest_schedule, most_days, most_use, most_rows};
 
 /// The greatest moment: 2099-12-31 23:59:59 UTC, in seconds since 1970-01-01 00:00:00 UTC.
 pub const LATEST_MOMENT: u64 = 4_102_444_799;
@@ -91,6 +91,21 @@ pub const MOST_TEXT_BYTES: u32 = 4_194_304;
 /// How many folders one step of a scan may visit.
 pub const MOST_VISITS: u32 = 1_000_000;
 
+/// How many report jobs there may be.
+pub const MOST_JOBS: usize = 256;
+
+/// The bytes of the longest schedule of a report job.
+pub const LONGEST_SCHEDULE: usize = 200;
+
+/// The most days that a report may look back.
+pub const MOST_DAYS: u32 = 36_500;
+
+/// The greatest percentage of a limit that a report may ask for.
+pub const MOST_USE: u32 = 1_000;
+
+/// The most rows of a report.
+pub const MOST_ROWS: u32 = 100_000;
+
 /// Each of these constants is the number that the definitions have.
 pub fn limits()
     ensures latest_moment { LATEST_MOMENT ≡ latest_moment }
@@ -122,4 +137,9 @@ pub fn limits()
     ensures most_screen_groups { MOST_SCREEN_GROUPS ≡ most_screen_groups }
     ensures most_text_bytes { MOST_TEXT_BYTES ≡ most_text_bytes }
     ensures most_visits { MOST_VISITS ≡ most_visits }
+    ensures most_jobs { MOST_JOBS ≡ most_jobs }
+    ensures longest_schedule { LONGEST_SCHEDULE ≡ longest_schedule }
+    ensures most_days { MOST_DAYS ≡ most_days }
+    ensures most_use { MOST_USE ≡ most_use }
+    ensures most_rows { MOST_ROWS ≡ most_rows }
 {}

@@ -5,7 +5,7 @@ use Rattle.fsrm_model.specs.declared.command.AdminDeed.TheVariants.{Options as A
 use Rattle.fsrm_model.specs.declared.command.AutoquotaDeed.TheVariants.{Add as AutoquotaAdd, Delete as AutoquotaDelete, List as AutoquotaList}
 use Rattle.fsrm_model.specs.declared.command.Command.{Command}
 use Rattle.fsrm_model.specs.declared.command.Deed.{Deed}
-use Rattle.fsrm_model.specs.declared.command.Deed.TheVariants.{File, Usage, Step, Quota, Template, Autoquota, Filegroup, Screen, Exception, Admin}
+use Rattle.fsrm_model.specs.declared.command.Deed.TheVariants.{File, Usage, Step, Quota, Template, Autoquota, Filegroup, Screen, Exception, Reports, Admin}
 use Rattle.fsrm_model.specs.declared.command.ExceptionDeed.TheVariants.{Add as ExceptionAdd, Delete as ExceptionDelete, List as ExceptionList}
 use Rattle.fsrm_model.specs.declared.command.FileOp.{FileOp}
 use Rattle.fsrm_model.specs.declared.command.FileOp.TheVariants.{Mkdir, Create, Resize, Touch, Move, Remove}
@@ -16,6 +16,7 @@ use Rattle.fsrm_model.specs.declared.command.Refusal.{Refusal}
 use Rattle.fsrm_model.specs.declared.command.Refusal.TheVariants.{ScreenBlocked, QuotaExceeded}
 use Rattle.fsrm_model.specs.declared.command.Outcome.TheVariants.{Sum}
 use Rattle.fsrm_model.specs.declared.command.QuotaDeed.TheVariants.{Add as QuotaAdd, Modify as QuotaModify, Delete as QuotaDelete, Scan as QuotaScan, Resetpeak as QuotaResetpeak, List as QuotaList}
+use Rattle.fsrm_model.specs.declared.command.ReportsDeed.TheVariants.{Generate as ReportsGenerate, Add as ReportsAdd, Delete as ReportsDelete, Run as ReportsRun, List as ReportsList}
 use Rattle.fsrm_model.specs.declared.command.ScreenDeed.TheVariants.{Add as ScreenAdd, Modify as ScreenModify, Delete as ScreenDelete, List as ScreenList}
 use Rattle.fsrm_model.specs.declared.command.TemplateDeed.TheVariants.{Add as TemplateAdd, Modify as TemplateModify, Delete as TemplateDelete, List as TemplateList}
 use Rattle.std.specs.Prelude.{◌&&◌, ◌==◌, [], ◌∷◌, find, is_some, sum_by, if◌then◌else◌}
@@ -25,7 +26,7 @@ use Rattle.fsrm_model.specs.declared.row.Capacity.{Capacity}
 use Rattle.fsrm_model.specs.declared.row.NodeRow.{NodeRow}
 use Rattle.fsrm_model.specs.declared.row.QuotaRow.{QuotaRow}
 use Rattle.fsrm_model.specs.declared.row.Rows.{Rows}
-use Rattle.fsrm_model.specs.commands.Commands.{emptied, empty_autoquota, empty_exception, empty_filegroup, empty_filegroup_change, empty_quota, empty_quota_change, empty_screen, empty_screen_change, empty_template, empty_template_change, kind}
+use Rattle.fsrm_model.specs.commands.Commands.{emptied, empty_autoquota, empty_exception, empty_filegroup, empty_filegroup_change, empty_job, empty_quota, empty_quota_change, empty_screen, empty_screen_change, empty_template, empty_template_change, kind}
 use Rattle.fsrm_model.specs.meaning.Exceeds.{Exceeds}
 use Rattle.fsrm_model.specs.meaning.Exceptions.{may_leave}
 use Rattle.fsrm_model.specs.nodes.FileOps.{plain}
@@ -46,8 +47,9 @@ use Rattle.fsrm_model.proofs.commands.Ends.{effect_nodes, outcome_kept}
 use Rattle.fsrm_model.proofs.commands.FileCommands.{file_orderly, file_limits, file_names, usage_still, file_kept, file_alike, usage_alike}
 use Rattle.fsrm_model.proofs.commands.GroupCommands.{group_add_still, group_modify_still, group_delete_still, group_list_still, group_add_kept, group_modify_kept, group_delete_kept, group_list_kept, group_add_alike, group_delete_alike, group_list_alike, group_modify_alike}
 use Rattle.fsrm_model.proofs.commands.ScreenCommands.{screen_add_still, screen_modify_still, screen_delete_still, screen_list_still, screen_add_kept, screen_modify_kept, screen_delete_kept, screen_list_kept, except_add_still, except_delete_still, except_list_still, except_add_kept, except_delete_kept, except_list_kept, except_add_alike, except_delete_alike, except_list_alike, screen_add_alike, screen_delete_alike, screen_list_alike, screen_modify_alike}
-use Rattle.fsrm_model.proofs.commands.Orderly.{IsAnswer, IsOrderly, IsStill, KeepsLimits, KeepsValid, NamesJudged, still_limits, unjudged_named}
+use Rattle.fsrm_model.proofs.commands.Orderly.{IsAnswer, IsFiltered, IsOrderly, IsStill, KeepsLimits, KeepsValid, NamesJudged, still_limits, unjudged_named}
 use Rattle.fsrm_model.proofs.commands.OrderlyLaws.{LeavesRuns, verdict, refused_kept, same_or_left, refused_by, sum_afresh, refusal_exceeds, refusal_blocks, still_unexceeded, limits_hold, outcome_named, unlasting_kept, valid_kept, refused_outcome}
+use Rattle.fsrm_model.proofs.commands.ReportCommands.{report_still, job_add_still, job_delete_still, job_run_still, job_list_still, job_run_filtered, job_add_kept, job_delete_kept, job_run_kept, job_list_kept, report_alike, job_add_alike, job_delete_alike, job_run_alike, job_list_alike}
 use Rattle.fsrm_model.proofs.commands.QuotaCommands.{add_kept, modify_kept, delete_kept, reset_kept, list_kept, add_still, modify_still, delete_still, reset_still, list_still, add_alike, delete_alike, list_alike, modify_alike, reset_alike, list_lasts}
 use Rattle.fsrm_model.proofs.commands.StepActs.{AreActs, decided_acts}
 use Rattle.fsrm_model.proofs.commands.TemplateCommands.{template_add_still, template_modify_still, template_delete_still, template_list_still, template_add_kept, template_modify_kept, template_delete_kept, template_list_kept, template_add_alike, template_delete_alike, template_list_alike, template_modify_alike}
@@ -55,6 +57,8 @@ use Rattle.fsrm_model.proofs.valid.RowsKept.{nothing_followed}
 use Rattle.fsrm_model.proofs.commands.ScanCommands.{scan_kept, step_kept, scan_still, step_still, scan_alike, step_lasts}
 use Rattle.fsrm_base.proofs.TestLaws.{both, le_is}
 use Rattle.fsrm_model.specs.objects.QuotaStates.{followed}
+use Rattle.fsrm_model.specs.commands.Check.{first}
+use Rattle.fsrm_model.specs.reports.Filters.{is_filter}
 use Rattle.fsrm_model.specs.store.Replays.{is_scan_step, accepted_lasts, lasts_by, lasts}
 use Rattle.fsrm_model.proofs.journal.Alike.{WorksAlike}
 use Rattle.fsrm_model.proofs.journal.AlikeSteps.{StepsAlike, step_alike}
@@ -131,6 +135,11 @@ certified K R moment (Screen ScreenList) = still (screen_list_still K R) (λ lat
 certified K R moment (Exception (ExceptionAdd new)) = still (except_add_still K R new) (λ late legal. except_add_kept K R new (both _ _ legal).1) (λ other. except_add_alike R new) refl
 certified K R moment (Exception (ExceptionDelete path)) = still (except_delete_still K R path) (λ late legal. except_delete_kept K R path) (λ other. except_delete_alike R path) refl
 certified K R moment (Exception ExceptionList) = still (except_list_still K R) (λ late legal. except_list_kept K R) (λ other. except_list_alike R) refl
+certified K R moment (Reports (ReportsGenerate new)) = still (report_still K R new) (λ late legal store h. nothing_followed K R store) (λ other. report_alike R new) refl
+certified K R moment (Reports (ReportsAdd new)) = still (job_add_still K R moment new) (λ late legal. job_add_kept K R moment new (both _ _ legal).1 late) (λ other. job_add_alike R moment new) refl
+certified K R moment (Reports (ReportsDelete name)) = still (job_delete_still K R name) (λ late legal. job_delete_kept K R name) (λ other. job_delete_alike R name) refl
+certified K R moment (Reports (ReportsRun name)) = still (job_run_still K R moment name) (λ late legal. job_run_kept K R moment name late) (λ other. job_run_alike R moment name) refl
+certified K R moment (Reports ReportsList) = still (job_list_still K R) (λ late legal. job_list_kept K R) (λ other. job_list_alike R) refl
 
 pub orderly : (K : Capacity) (R : Rows) (moment : ℕ) (deed : Deed) → IsOrderly K R (work K R moment deed)
 orderly K R moment deed = (certified K R moment deed).orderly
@@ -189,12 +198,37 @@ limits_kept K R c folder quota store there counting enforced rises =
     let late = nat_lt c.moment R.last_moment in
     limits_hold K R c.moment late w (certified K R c.moment c.deed).limits store (verdict late w) refl folder quota (record { there = there; counting = counting; enforced = enforced; rises = rises })
 
+-- the filter of a report that is made once has values in their ranges. Other commands give their reports none of their own
+abbrev pub IsLegalReport : Deed → Type 0
+IsLegalReport (Reports (ReportsGenerate new)) = is_filter new.filter ≡ true
+IsLegalReport other = Unit {0}
+
+pub legal_report : (deed : Deed) → is_deed deed ≡ true → IsLegalReport deed
+legal_report (Reports (ReportsGenerate new)) legal = (both _ _ legal).1
+legal_report (Reports ReportsList) legal = tt
+legal_report other legal = tt
+
+-- then so has the filter of each report that a command makes
+filtered : (K : Capacity) (R : Rows) (moment : ℕ) (deed : Deed) → IsValid K R → IsLegalReport deed → first (work K R moment deed).checks ≡ None → IsFiltered (work K R moment deed).outcome
+filtered K R moment (Reports (ReportsGenerate new)) store legal h = legal
+filtered K R moment (Reports (ReportsRun name)) store legal h = job_run_filtered K R moment name store h
+filtered K R moment (Reports ReportsList) store legal h = tt
+filtered K R moment (Quota (QuotaList None)) store legal h = tt
+filtered K R moment (Quota (QuotaList (Some path))) store legal h = tt
+filtered K R moment (Template TemplateList) store legal h = tt
+filtered K R moment (Autoquota AutoquotaList) store legal h = tt
+filtered K R moment (Filegroup FilegroupList) store legal h = tt
+filtered K R moment (Screen ScreenList) store legal h = tt
+filtered K R moment (Exception ExceptionList) store legal h = tt
+filtered K R moment (Admin AdminList) store legal h = tt
+filtered K R moment other store legal h = tt
+
 -- an outcome names what is there
-pub named : (K : Capacity) (R : Rows) (c : Command) → IsValid K R → IsNamed (step K R c).rows (step K R c).outcome
-named K R c store =
+pub named : (K : Capacity) (R : Rows) (c : Command) → IsValid K R → IsLegalReport c.deed → IsNamed (step K R c).rows (step K R c).outcome
+named K R c store legal =
     let w = work K R c.moment c.deed in
     let late = nat_lt c.moment R.last_moment in
-    outcome_named K R c.moment late w (orderly K R c.moment c.deed) store (verdict late w) refl
+    outcome_named K R c.moment late w (orderly K R c.moment c.deed) store (filtered K R c.moment c.deed store legal) (verdict late w) refl
 
 -- a command that doesn't last leaves what a store keeps
 pub lasting_kept : (K : Capacity) (R : Rows) (c : Command) → IsValid K R → (step K R c).lasting ≡ false → lasting (step K R c).rows ≡ lasting R
@@ -251,7 +285,8 @@ kinds =
     ∷ Admin (AdminOptions 0)
     ∷ Filegroup (FilegroupAdd empty_filegroup) ∷ Filegroup (FilegroupModify empty_filegroup_change) ∷ Filegroup (FilegroupDelete [])
     ∷ Screen (ScreenAdd empty_screen) ∷ Screen (ScreenModify empty_screen_change) ∷ Screen (ScreenDelete [])
-    ∷ Exception (ExceptionAdd empty_exception) ∷ Exception (ExceptionDelete []) ∷ []
+    ∷ Exception (ExceptionAdd empty_exception) ∷ Exception (ExceptionDelete [])
+    ∷ Reports (ReportsAdd empty_job) ∷ Reports (ReportsDelete []) ∷ Reports (ReportsRun []) ∷ []
 
 -- the first of them that has this kind
 abbrev of_kind : ℕ → Option Deed
@@ -293,6 +328,11 @@ of_kind_is (Screen ScreenList) k h = absurd (cc h)
 of_kind_is (Exception (ExceptionAdd new)) k h = ap of_kind (sym (same_Some _ _ h))
 of_kind_is (Exception (ExceptionDelete path)) k h = ap of_kind (sym (same_Some _ _ h))
 of_kind_is (Exception ExceptionList) k h = absurd (cc h)
+of_kind_is (Reports (ReportsGenerate new)) k h = absurd (cc h)
+of_kind_is (Reports (ReportsAdd new)) k h = ap of_kind (sym (same_Some _ _ h))
+of_kind_is (Reports (ReportsDelete name)) k h = ap of_kind (sym (same_Some _ _ h))
+of_kind_is (Reports (ReportsRun name)) k h = ap of_kind (sym (same_Some _ _ h))
+of_kind_is (Reports ReportsList) k h = absurd (cc h)
 
 -- so the kind tells the command
 pub same_kind : (one other : Deed) (k : ℕ) → kind one ≡ Some k → kind other ≡ Some k → emptied one ≡ emptied other

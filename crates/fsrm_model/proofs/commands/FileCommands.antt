@@ -47,9 +47,11 @@ use Rattle.fsrm_model.proofs.nodes.OwnLaws.{own_parts, own_joined, own_named, ow
 use Rattle.fsrm_model.proofs.valid.QueueKept.{queue_without}
 use Rattle.fsrm_model.proofs.valid.QuotasKept.{quotas_stay, quotas-without}
 use Rattle.fsrm_model.specs.objects.Quota.{folder_of}
-use Rattle.fsrm_model.specs.values.Texts.{action_bytes, auto_bytes, object_texts, quota_bytes}
+use Rattle.fsrm_model.specs.values.Texts.{action_bytes, auto_bytes, job_bytes, object_texts, quota_bytes}
 use Rattle.fsrm_model.proofs.thresholds.KeptLaws.{sum_by-less}
 use Rattle.fsrm_model.proofs.valid.ComingQuotas.{coming_one}
+use Rattle.fsrm_model.proofs.valid.JobsKept.{jobs-gone}
+use Rattle.fsrm_model.specs.objects.Jobs.{is_elsewhere}
 use Rattle.fsrm_model.proofs.valid.RowsKept.{valid_with, same_heads, left_followed, left_after, head_folder, screens_folder}
 use Rattle.fsrm_model.proofs.valid.ScreensKept.{screens-gone, excepts-gone}
 use Rattle.fsrm_model.proofs.valid.TemplatesKept.{AreComing, autos-gone, quotas-coming, sources-coming, queue-coming, sources-without}
@@ -398,13 +400,14 @@ remove_kept K R path moment s h =
     let less = sum_by-less quota_bytes (λ q. not (folder_of q == x)) R.quotas in
     let fewer = sum_by-less own (λ screen. not (screen_folder screen == x)) R.screens in
     let fewest = sum_by-less auto_bytes (λ auto. not (auto_folder auto == x)) R.autos in
+    let fewest_jobs = sum_by-less job_bytes (is_elsewhere x) R.jobs in
     let few = s.texts in
     let E : Rows = followed R (file_effect R (Remove path) moment) in
     let t : AreTables E = record {
       sources = sources-without R.templates x R.quotas s.tables.sources;
       templates = s.tables.templates;
       autos = autos-gone R.nodes new R.templates R.autos x folders s.tables.autos;
-      jobs = s.tables.jobs;
+      jobs = jobs-gone R.nodes new R.jobs x folders s.tables.jobs;
       groups = s.tables.groups;
       screens = screens-gone R.nodes new R.groups R.excepts R.screens x folders s.tables.screens;
       excepts = excepts-gone R.nodes new R.groups R.excepts x folders s.tables.excepts;
@@ -416,7 +419,7 @@ remove_kept K R path moment s h =
           let apart : (f == x) ≡ false = not_true (f == x) (λ e. clash _ (subst (λ k. has_row folder_of k quotas ≡ true) (eq_is f x e) (found_has folder_of f quotas q found)) (has_row-without folder_of x R.quotas)) in
           folders f apart is);
       tables = t;
-      texts = omega (arith, less, fewer, fewest, few);
+      texts = omega (arith, less, fewer, fewest, fewest_jobs, few);
       log = s.log;
       run_limit = s.run_limit;
       last_moment = s.last_moment;

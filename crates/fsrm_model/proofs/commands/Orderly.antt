@@ -4,7 +4,7 @@ use Rattle.std.proofs.Common.{◌≡◌, ℕ, ◌<◌, ◌≤◌, Bool, true, fa
 use Rattle.std.specs.Prelude.{option_map}
 use Rattle.std.specs.List.{AllByRecursion}
 use Rattle.fsrm_model.specs.declared.command.Outcome.{Outcome}
-use Rattle.fsrm_model.specs.declared.command.Outcome.TheVariants.{Done, Sum, Listing, Scanned, Refused}
+use Rattle.fsrm_model.specs.declared.command.Outcome.TheVariants.{Done, Sum, Listing, Report, Scanned, Refused}
 use Rattle.fsrm_model.specs.declared.command.Refusal.{Refusal}
 use Rattle.fsrm_model.specs.declared.command.Refusal.TheVariants.{ScreenBlocked, QuotaExceeded}
 use Rattle.fsrm_model.specs.declared.row.Capacity.{Capacity}
@@ -20,7 +20,8 @@ use Rattle.fsrm_model.specs.objects.Quota.{quota_of, counts, over, deepest, exce
 use Rattle.fsrm_model.specs.objects.QuotaStates.{followed}
 use Rattle.fsrm_model.specs.objects.Screens.{screen_of}
 use Rattle.fsrm_model.specs.texts.Text.{is_bare}
-use Rattle.fsrm_model.specs.nodes.Tree.{usage}
+use Rattle.fsrm_model.specs.nodes.Tree.{is_folder, usage}
+use Rattle.fsrm_model.specs.reports.Filters.{is_filter}
 use Rattle.fsrm_model.specs.store.Valid.{IsValid}
 use Rattle.fsrm_model.specs.commands.Work.{Work, Judged, asks}
 
@@ -29,6 +30,7 @@ abbrev pub IsAnswer : Capacity → Rows → Outcome → Type 0
 IsAnswer K R (Done passive) = Unit {0}
 IsAnswer K R (Sum node bytes) = bytes ≡ usage K R.nodes node
 IsAnswer K R (Listing ask) = Unit {0}
+IsAnswer K R (Report ask) = Unit {0}
 IsAnswer K R (Scanned folder visited used) = Unit {0}
 IsAnswer K R (Refused refusal) = ⊥
 
@@ -69,11 +71,20 @@ pub record IsJudged (R E : Rows) (judged : Judged) : Type 0 where
   pub there : screen_of R judged.screen.folder ≡ Some judged.screen
   pub same : E.screens ≡ R.screens
 
+-- what an outcome names is there. That a report's filter has values in their ranges is known apart from this
+abbrev pub IsPlaced : Rows → Outcome → Type 0
+IsPlaced R (Report ask) = is_folder R.nodes ask.scope ≡ true
+IsPlaced R other = IsNamed R other
+
+abbrev pub IsFiltered : Outcome → Type 0
+IsFiltered (Report ask) = is_filter ask.filter ≡ true
+IsFiltered other = Unit {0}
+
 -- What is known of every work. What it says of an accepted command may rest on the rows being those of a store
 pub record IsOrderly (K : Capacity) (R : Rows) (w : Work) : Type 0 where
   pub answer : IsAnswer K R w.outcome
   pub checks : AreChecks K R w.effect.nodes w.judged w.checks
-  pub named : IsValid K R → first w.checks ≡ None → IsNamed w.effect w.outcome
+  pub named : IsValid K R → first w.checks ≡ None → IsPlaced w.effect w.outcome
   pub quiet : IsValid K R → first w.checks ≡ None → w.lasts ≡ false → lasting w.effect ≡ lasting R
   pub judged : (j : Judged) → w.judged ≡ Some j → IsJudged R w.effect j
 
@@ -127,7 +138,7 @@ pub change_still : (K : Capacity) (R : Rows) (checks : List Check) (effect : Row
 change_still K R checks effect are same = record { orderly = change_orderly K R checks effect are; same = same; unjudged = refl }
 
 -- a command that only shows something
-pub show_still : (K : Capacity) (R : Rows) (checks : List Check) (outcome : Outcome) → IsAnswer K R outcome → AreChecks K R R.nodes None checks → (IsValid K R → first checks ≡ None → IsNamed R outcome) → IsStill K R (asks checks R outcome false)
+pub show_still : (K : Capacity) (R : Rows) (checks : List Check) (outcome : Outcome) → IsAnswer K R outcome → AreChecks K R R.nodes None checks → (IsValid K R → first checks ≡ None → IsPlaced R outcome) → IsStill K R (asks checks R outcome false)
 show_still K R checks outcome answer are named =
     record {
       orderly = record { answer = answer; checks = are; named = named; quiet = λ store h still. refl; judged = λ j h. absurd (cc h) };

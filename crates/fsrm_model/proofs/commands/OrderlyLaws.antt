@@ -4,9 +4,9 @@ use Rattle.std.proofs.lemmas.List.{append-nil}
 use Rattle.std.specs.Prelude.{is_some, map, option_map, if◌then◌else◌}
 use Rattle.std.specs.Option.{option_map_or}
 use Rattle.fsrm_model.specs.declared.command.Act.{Act}
-use Rattle.fsrm_model.specs.declared.command.Ask.TheVariants.{Quotas, Templates, Autos, Groups, Screens, Excepts, Settings, Acts}
+use Rattle.fsrm_model.specs.declared.command.Ask.TheVariants.{Quotas, Templates, Autos, Groups, Screens, Excepts, Jobs, Settings, Acts}
 use Rattle.fsrm_model.specs.declared.command.Outcome.{Outcome}
-use Rattle.fsrm_model.specs.declared.command.Outcome.TheVariants.{Done, Sum, Listing, Scanned, Refused}
+use Rattle.fsrm_model.specs.declared.command.Outcome.TheVariants.{Done, Sum, Listing, Report, Scanned, Refused}
 use Rattle.fsrm_model.specs.declared.command.Refusal.{Refusal}
 use Rattle.fsrm_model.specs.declared.command.Refusal.TheVariants.{ClockBack, ScreenBlocked, QuotaExceeded}
 use Rattle.fsrm_model.specs.declared.row.Capacity.{Capacity}
@@ -29,12 +29,12 @@ use Rattle.fsrm_model.specs.objects.Reached.{reached, crossed}
 use Rattle.fsrm_model.specs.objects.Runs.{run_quota, entry_of, ran}
 use Rattle.fsrm_model.specs.objects.Screens.{screen_folder}
 use Rattle.fsrm_model.specs.commands.Step.{Stepped, Acted, acted, screened_by, screened, ran_if_any, refused_leaving, refused, decided, lasted, unlasting}
-use Rattle.fsrm_model.specs.nodes.Tree.{number, usage}
+use Rattle.fsrm_model.specs.nodes.Tree.{number, is_folder, usage}
 use Rattle.fsrm_model.specs.store.Valid.{is_empty, IsValid}
 use Rattle.fsrm_model.specs.commands.Work.{Work, Judged}
 use Rattle.fsrm_base.proofs.Look.{found_has}
 use Rattle.fsrm_model.proofs.commands.Ends.{refused_cases, screened_nodes, outcome_kept, nodes_kept}
-use Rattle.fsrm_model.proofs.commands.Orderly.{IsAnswer, IsBlocked, IsCheck, IsWithin, KeepsLimits, KeepsValid, IsAsked, NamesJudged, IsOrderly, bare, first_check, first_none, none_rises}
+use Rattle.fsrm_model.proofs.commands.Orderly.{IsAnswer, IsBlocked, IsCheck, IsPlaced, IsFiltered, IsWithin, KeepsLimits, KeepsValid, IsAsked, NamesJudged, IsOrderly, bare, first_check, first_none, none_rises}
 use Rattle.fsrm_model.proofs.commands.QuotaLaws.{exceeded_is, peaked_there}
 use Rattle.fsrm_model.proofs.thresholds.ActLaws.{none_due}
 use Rattle.fsrm_model.proofs.thresholds.ReachedLaws.{none_crossed, reached_peaked}
@@ -190,6 +190,15 @@ run_there : (moment : ℕ) (acts : List Act) (folder : ℕ) (quotas : List Quota
 run_there moment acts folder [] = refl
 run_there moment acts folder (quota ∷ quotas) = ap (λ b. (quota.folder == folder) || b) (run_there moment acts folder quotas)
 
+-- an outcome names what is there, and a report's filter has values in their ranges
+named_joined : (R : Rows) (outcome : Outcome) → IsPlaced R outcome → IsFiltered outcome → IsNamed R outcome
+named_joined R (Done passive) h f = h
+named_joined R (Sum node bytes) h f = h
+named_joined R (Listing ask) h f = h
+named_joined R (Report ask) h f = (h, f)
+named_joined R (Scanned folder visited used) h f = h
+named_joined R (Refused refusal) h f = h
+
 -- an outcome names what is there, as long as the nodes stay and each quota its folder
 named_same : (E F : Rows) (outcome : Outcome) → F.nodes ≡ E.nodes → ((folder : ℕ) → has_row folder_of folder F.quotas ≡ has_row folder_of folder E.quotas) → IsNamed E outcome → IsNamed F outcome
 named_same E F (Done None) same there h = tt
@@ -202,8 +211,10 @@ named_same E F (Listing Autos) same there h = tt
 named_same E F (Listing Groups) same there h = tt
 named_same E F (Listing Screens) same there h = tt
 named_same E F (Listing Excepts) same there h = tt
+named_same E F (Listing Jobs) same there h = tt
 named_same E F (Listing Settings) same there h = tt
 named_same E F (Listing Acts) same there h = tt
+named_same E F (Report ask) same there h = (ap (λ nodes. is_folder nodes ask.scope) same ∙ h.0, h.1)
 named_same E F (Scanned folder visited used) same there h = ap (has_row number folder) same ∙ h
 named_same E F (Refused (ScreenBlocked screen)) same there h = ap (has_row number screen) same ∙ h
 named_same E F (Refused (QuotaExceeded folder would limit)) same there h = ap (has_row number folder) same ∙ h
@@ -242,15 +253,16 @@ still_named R E (ScreenBlocked screen) same h = ap (has_row number screen) same 
 still_named R E (QuotaExceeded folder would limit) same h = ap (λ nodes. has_row number folder nodes) same ∙ h
 still_named R E other same h = tt
 
-pub outcome_named : (K : Capacity) (R : Rows) (moment : ℕ) (late : Bool) (w : Work) → IsOrderly K R w → IsValid K R → (o : Option Refusal) → verdict late w ≡ o → IsNamed (decided K R moment w o).rows (decided K R moment w o).outcome
-outcome_named K R moment late w c store (Some refusal) e =
+pub outcome_named : (K : Capacity) (R : Rows) (moment : ℕ) (late : Bool) (w : Work) → IsOrderly K R w → IsValid K R → (first w.checks ≡ None → IsFiltered w.outcome) → (o : Option Refusal) → verdict late w ≡ o → IsNamed (decided K R moment w o).rows (decided K R moment w o).outcome
+outcome_named K R moment late w c store filtered (Some refusal) e =
     let nodes = w.effect.nodes in
     let names = refusal_named K R nodes w (verdict late w) refusal store c e (first_check K R nodes w.judged ((ClockBack when late) ∷ w.checks) (bare _ _ refl, c.checks)) in
     subst (IsNamed (refused K R moment w refusal).rows) (sym (refused_outcome K R moment w refusal))
     (still_named R (refused K R moment w refusal).rows refusal (refused_nodes K R moment w refusal) names)
-outcome_named K R moment late w c store None e =
+outcome_named K R moment late w c store filtered None e =
+    let none = (first_none (ClockBack when late) w.checks e).1 in
     subst (IsNamed (decided K R moment w None).rows) (sym (outcome_kept K R moment w))
-    (named_in K R moment w w.lasts (c.named store (first_none (ClockBack when late) w.checks e).1))
+    (named_in K R moment w w.lasts (named_joined w.effect w.outcome (c.named store none) (filtered none)))
 
 -- what doesn't last leaves what a store keeps
 quiet_end : (K : Capacity) (R : Rows) (moment : ℕ) (w : Work) (lasts : Bool) → w.lasts ≡ lasts → (w.lasts ≡ false → lasting w.effect ≡ lasting R) → (if lasts then lasted K R (screened (followed R w.effect) moment w.judged) moment w.outcome else unlasting (followed R w.effect) w.outcome).lasting ≡ false → lasting (if lasts then lasted K R (screened (followed R w.effect) moment w.judged) moment w.outcome else unlasting (followed R w.effect) w.outcome).rows ≡ lasting R

@@ -7,6 +7,7 @@ use Rattle.fsrm_base.proofs.TestLaws.{both}
 use Rattle.fsrm_model.specs.declared.command.FilegroupChange.{FilegroupChange}
 use Rattle.fsrm_model.specs.declared.command.NewAutoquota.{NewAutoquota}
 use Rattle.fsrm_model.specs.declared.command.NewFilegroup.{NewFilegroup}
+use Rattle.fsrm_model.specs.declared.command.NewJob.{NewJob}
 use Rattle.fsrm_model.specs.declared.command.NewQuota.{NewQuota}
 use Rattle.fsrm_model.specs.declared.command.NewScreen.{NewScreen}
 use Rattle.fsrm_model.specs.declared.command.NewTemplate.{NewTemplate}
@@ -14,11 +15,13 @@ use Rattle.fsrm_model.specs.declared.command.NewThresholds.{NewThresholds}
 use Rattle.fsrm_model.specs.declared.command.QuotaChange.{QuotaChange}
 use Rattle.fsrm_model.specs.declared.command.ScreenChange.{ScreenChange}
 use Rattle.fsrm_model.specs.declared.command.TemplateChange.{TemplateChange}
-use Rattle.fsrm_model.specs.commands.Commands.{are_some_names, are_new_thresholds, is_new_quota, is_quota_change, is_new_template, is_template_change, is_new_autoquota, is_new_filegroup, is_filegroup_change, is_new_screen, is_screen_change}
+use Rattle.fsrm_model.specs.commands.Commands.{are_some_names, are_new_thresholds, is_new_quota, is_quota_change, is_new_template, is_template_change, is_new_autoquota, is_new_filegroup, is_filegroup_change, is_new_screen, is_screen_change, is_new_job}
 use Rattle.fsrm_model.specs.values.Limits.{most_excluded}
 use Rattle.fsrm_model.specs.values.Name.{is_name}
 use Rattle.fsrm_model.specs.values.Patterns.{is_object_name, are_members, are_non_members}
+use Rattle.fsrm_model.specs.objects.Jobs.{is_schedule}
 use Rattle.fsrm_model.specs.objects.Quota.{is_limit}
+use Rattle.fsrm_model.specs.reports.Filters.{is_filter}
 use Rattle.fsrm_model.specs.objects.Thresholds.{is_percent, is_new_action, is_notice}
 
 -- ---- quotas
@@ -143,3 +146,16 @@ pub screen_change_parts : (change : ScreenChange) → is_screen_change change �
 screen_change_parts change legal =
     let lists = both (list_all is_object_name change.removed) (list_all is_object_name change.groups) legal in
     record { removed = lists.0; groups = lists.1 }
+
+-- ---- report jobs
+pub record IsNewJob (new : NewJob) : Type 0 where
+  pub name : is_object_name new.name ≡ true
+  pub schedule : option_map_or is_schedule new.schedule true ≡ true
+  pub filter : is_filter new.filter ≡ true
+
+pub new_job_parts : (new : NewJob) → is_new_job new ≡ true → IsNewJob new
+new_job_parts new legal =
+    let due = option_map_or is_schedule new.schedule true in
+    let halves = both (is_object_name new.name) (due && is_filter new.filter) legal in
+    let rest = both due (is_filter new.filter) halves.1 in
+    record { name = halves.0; schedule = rest.0; filter = rest.1 }

@@ -274,7 +274,7 @@ abbrev IsApart : List ℕ × Names (Names ToolCommand) → Type 0
 IsApart tool = named placed tool.0 ≡ None
 
 tools_apart : AllByRecursion IsApart tools
-tools_apart = (refl, (refl, tt))
+tools_apart = (refl, (refl, (refl, tt)))
 
 tool_read : (text : List ℕ) (objects : Names (Names ToolCommand)) → named tools text ≡ Some objects → named readers text ≡ Some (tool_words objects)
 tool_read text objects h =

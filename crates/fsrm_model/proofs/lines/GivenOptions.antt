@@ -10,7 +10,7 @@ use Rattle.fsrm_model.specs.declared.row.Action.{Action}
 use Rattle.fsrm_model.specs.commands.Entry.{number_bytes, text_bytes, path_bytes, notice_bytes, screen_notice_bytes}
 use Rattle.fsrm_model.specs.values.Limits.{longest_path}
 use Rattle.fsrm_model.specs.lines.ValueForms.{Value, PathValue, NumberValue, TextValue, TextsValue, NoticeValue, ActionValue, path_of, number_of, text_of, texts_of, notice_of, action_of}
-use Rattle.fsrm_model.specs.lines.Options.{Key, path_key, Given, is_same, is_of, are_apart, its, one, each_of}
+use Rattle.fsrm_model.specs.lines.Options.{Key, Given, is_same, is_of, are_apart, its, one, each_of}
 use Rattle.fsrm_model.specs.meaning.Spelling.{SpellsEach, AreAllowed, SpellsOptions}
 use Rattle.fsrm_base.proofs.TestLaws.{both, both_true, is_false}
 use Rattle.fsrm_model.proofs.lines.OptionLaws.{same_is}
@@ -253,9 +253,9 @@ each_fits {X} of key bytes each (g ∷ given) =
     at (Some x) is rest =
         omega (arith, rest, sum_by-cons bytes x (each_of of key given), its_weigh of key bytes each g x is)
 
-pub path_weighs : Weighs path_of path_key path_bytes
-path_weighs (PathValue own) x e = let same : own ≡ x = cc e in omega (arith, ap path_bytes same)
-path_weighs other x e = absurd (cc e)
+pub path_weighs : (key : Key) → name_pays key 2 ≡ 2 → Weighs path_of key path_bytes
+path_weighs key long (PathValue own) x e = let same : own ≡ x = cc e in omega (arith, long, ap path_bytes same)
+path_weighs key long other x e = absurd (cc e)
 
 pub text_weighs : (key : Key) → name_pays key 2 ≡ 2 → Weighs text_of key text_bytes
 text_weighs key long (TextValue own) x e = let same : own ≡ x = cc e in omega (arith, long, ap text_bytes same)

@@ -13,9 +13,10 @@ use Rattle.fsrm_model.specs.declared.row.Action.{Action}
 use Rattle.fsrm_model.specs.commands.Entry.{path_length, path_bytes}
 use Rattle.fsrm_model.specs.values.Limits.{longest_path, greatest_percent, most_minutes, most_patterns}
 use Rattle.fsrm_model.specs.values.Name.{is_name}
-use Rattle.fsrm_model.specs.lines.ValueForms.{ValueForm, PathForm, LimitForm, NumberForm, ChoiceForm, UpdateForm, ObjectForm, NameForm, MembersForm, NonMembersForm, NoticeForm, ActionForm, Value, PathValue, NumberValue, ChoiceValue, UpdateValue, TextValue, TextsValue, NoticeValue, ActionValue}
+use Rattle.fsrm_model.specs.lines.ValueForms.{ValueForm, PathForm, LimitForm, NumberForm, ChoiceForm, UpdateForm, ObjectForm, NameForm, MembersForm, NonMembersForm, NoticeForm, ActionForm, ReportForm, PatternForm, ScheduleForm, Value, PathValue, NumberValue, ChoiceValue, UpdateValue, TextValue, TextsValue, NoticeValue, ActionValue, ReportValue}
 use Rattle.fsrm_model.specs.lines.Options.{Key, Given, key_named}
 use Rattle.fsrm_model.specs.values.Patterns.{is_object_name, is_pattern, are_members, are_non_members}
+use Rattle.fsrm_model.specs.objects.Jobs.{is_schedule}
 use Rattle.fsrm_model.specs.objects.Quota.{is_limit}
 use Rattle.fsrm_model.specs.meaning.Spelling.{Writes, WritesPath, WritesMinutes, WritesAction, WritesNotice, WritesPatterns, WritesValue}
 use Rattle.fsrm_model.specs.objects.Thresholds.{is_percent, are_minutes, is_action_text, is_action, is_new_action, is_notice}
@@ -75,6 +76,9 @@ IsSoundValue MembersForm (TextsValue patterns) = are_members patterns ≡ true
 IsSoundValue NonMembersForm (TextsValue patterns) = are_non_members patterns ≡ true
 IsSoundValue NoticeForm (NoticeValue notice) = is_notice notice ≡ true
 IsSoundValue ActionForm (ActionValue action) = is_new_action action ≡ true
+IsSoundValue ReportForm (ReportValue kind) = Unit {0}
+IsSoundValue PatternForm (TextValue pattern) = is_pattern pattern ≡ true
+IsSoundValue ScheduleForm (TextValue schedule) = is_schedule schedule ≡ true
 IsSoundValue form other = ⊥
 
 abbrev pub IsSoundGiven : Given → Type 0
@@ -98,6 +102,7 @@ weight key (TextValue text) = name_pays key 2 + length text
 weight key (TextsValue texts) = lengths texts
 weight key (NoticeValue notice) = name_pays key 16 + (3 + length notice.action.text)
 weight key (ActionValue action) = name_pays key 9 + (2 + length action.text)
+weight key (ReportValue kind) = 0
 
 abbrev pub weigh : Given → ℕ
 weigh given = weight given.key given.value
@@ -141,6 +146,9 @@ value_sound MembersForm text (TextsValue patterns) short w = members_sound text 
 value_sound NonMembersForm text (TextsValue patterns) short w = patterns_sound 0 text patterns w
 value_sound NoticeForm text (NoticeValue notice) short w = notice_sound text notice w
 value_sound ActionForm text (ActionValue action) short w = action_sound text action w
+value_sound ReportForm text (ReportValue kind) short w = tt
+value_sound PatternForm text (TextValue pattern) short w = w.legal
+value_sound ScheduleForm text (TextValue schedule) short w = w.legal
 value_sound form text value short w = absurd w
 
 -- the name of an option has as many bytes, however it is spelled
@@ -187,4 +195,7 @@ value_fits key text value w = by key.form value w
     by NonMembersForm (TextsValue patterns) w = omega (arith, ap length w.text_is, joined_fits patterns)
     by NoticeForm (NoticeValue notice) w = omega (arith, notice_fits text notice w, most 16)
     by ActionForm (ActionValue action) w = omega (arith, action_fits text action w, most 9)
+    by ReportForm (ReportValue kind) w = omega arith
+    by PatternForm (TextValue pattern) w = omega (arith, ap length w.text_is, most 2)
+    by ScheduleForm (TextValue schedule) w = omega (arith, ap length w.text_is, most 2)
     by form value w = absurd w

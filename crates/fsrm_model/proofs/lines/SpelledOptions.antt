@@ -39,7 +39,7 @@ all_weights given =
     omega (
       arith,
       shares_fit (path_key ∷ source_template_key ∷ exclude_key ∷ remove_threshold_key ∷ add_threshold_key ∷ add_notification_key ∷ []) given refl,
-      one_fits path_of path_key path_bytes path_weighs given,
+      one_fits path_of path_key path_bytes (path_weighs path_key refl) given,
       one_fits text_of source_template_key text_bytes (text_weighs source_template_key refl) given,
       each_fits text_of exclude_key text_bytes (text_weighs exclude_key refl) given,
       each_fits number_of remove_threshold_key (λ n. number_bytes) (number_weighs remove_threshold_key refl) given,

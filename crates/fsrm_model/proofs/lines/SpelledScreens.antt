@@ -112,7 +112,7 @@ has_screen L given path s e =
             own,
             s.bytes,
             shares_fit (path_key ∷ remove_filegroup_key ∷ add_filegroup_key ∷ screen_notification_key ∷ []) given refl,
-            one_fits path_of path_key path_bytes path_weighs given,
+            one_fits path_of path_key path_bytes (path_weighs path_key refl) given,
             each_fits text_of remove_filegroup_key text_bytes (text_weighs remove_filegroup_key refl) given,
             each_fits text_of add_filegroup_key text_bytes (text_weighs add_filegroup_key refl) given,
             each_fits action_of screen_notification_key screen_notice_bytes (action_weighs screen_notification_key refl) given,

@@ -31,6 +31,7 @@ use Rattle.fsrm_base.proofs.TestLaws.{both, both_true, lt_is}
 use Rattle.fsrm_model.proofs.lines.SoundValues.{Path, is_sound_path, path_sound, within, IsSoundGiven}
 use Rattle.fsrm_model.proofs.lines.GivenOptions.{AreSound, each_sound, numbers_kind, one_sound, maybe_sound}
 use Rattle.fsrm_model.proofs.lines.SpelledOptions.{IsSound, one_true, alone, has_path, given_path, given_limit, given_removals, given_percents, given_notices, limit_or, given_source, needed, IsSoundCommand, path_sound_command, alone_sound, optional_fits, AreSoundCommands}
+use Rattle.fsrm_model.proofs.lines.SpelledReports.{storrept_sound}
 use Rattle.fsrm_model.proofs.lines.SpelledScreens.{filescrn_sound}
 use Rattle.fsrm_model.proofs.lines.SpelledTemplates.{template_commands_sound, auto_commands_sound}
 
@@ -218,7 +219,7 @@ dirquota_sound : AllByRecursion AreSoundCommands dirquota
 dirquota_sound = (quota_commands_sound, (template_commands_sound, (auto_commands_sound, (admin_commands_sound, tt))))
 
 tools_sound : AllByRecursion IsSoundTool tools
-tools_sound = (dirquota_sound, (filescrn_sound, tt))
+tools_sound = (dirquota_sound, (filescrn_sound, (storrept_sound, tt)))
 
 tool_sound : (words : List (List ℕ)) (d : Deed) → sum_by length words ≤ longest_path → SpellsTool words d → IsSound (sum_by length words) d
 tool_sound words d few s =

@@ -3,7 +3,8 @@ use Rattle.std.proofs.Common.{◌≡◌, ℕ, List, true, refl, sym, ◌∙◌, 
 use Rattle.std.specs.Prelude.{Ok, ◌==◌, bytes_eq}
 use Rattle.std.proofs.lemmas.Slice.Eq.{bytes_eq-Decides}
 use Rattle.fsrm_model.specs.texts.ActionWords.{action_from, notice_from}
-use Rattle.fsrm_model.specs.lines.ValueForms.{ValueForm, PathForm, LimitForm, NumberForm, ChoiceForm, UpdateForm, ObjectForm, NameForm, MembersForm, NonMembersForm, NoticeForm, ActionForm, Value, PathValue, NumberValue, ChoiceValue, UpdateValue, TextValue, TextsValue, NoticeValue, ActionValue, value_from, same_form}
+use Rattle.fsrm_model.specs.texts.ReportWords.{report_from, pattern_from, schedule_from}
+use Rattle.fsrm_model.specs.lines.ValueForms.{ValueForm, PathForm, LimitForm, NumberForm, ChoiceForm, UpdateForm, ObjectForm, NameForm, MembersForm, NonMembersForm, NoticeForm, ActionForm, ReportForm, PatternForm, ScheduleForm, Value, PathValue, NumberValue, ChoiceValue, UpdateValue, TextValue, TextsValue, NoticeValue, ActionValue, ReportValue, value_from, same_form}
 use Rattle.fsrm_model.specs.lines.GroupWords.{object_from, patterns_from, non_members_from}
 use Rattle.fsrm_model.specs.lines.Reading.{Read, ◌>>=◌, number_from, path_from, limit_from, choice_from}
 use Rattle.fsrm_model.specs.meaning.Spelling.{WritesValue}
@@ -14,6 +15,7 @@ use Rattle.fsrm_model.proofs.lines.GroupWordLaws.{object_writes, object_reads, o
 use Rattle.fsrm_model.proofs.lines.LineValues.{AsLine, then_line, number_line, path_line, limit_line, choice_line}
 use Rattle.fsrm_model.proofs.lines.PathLaws.{path_writes, path_reads}
 use Rattle.fsrm_model.proofs.lines.ReadLaws.{then_ok, both_ok, number_writes, number_reads}
+use Rattle.fsrm_model.proofs.lines.ReportWordLaws.{report_writes, report_reads, report_line, pattern_writes, pattern_reads, pattern_line, schedule_writes, schedule_reads, schedule_line}
 use Rattle.fsrm_model.proofs.lines.TemplateWordLaws.{update_writes, update_reads, update_line, name_writes, name_reads, name_line}
 use Rattle.fsrm_model.proofs.lines.ValueLaws.{limit_writes, limit_reads, choice_writes, choice_reads}
 
@@ -55,6 +57,11 @@ is_form NonMembersForm =
     form_of NonMembersForm (λ column text. non_members_from text) TextsValue (λ column text. refl) (λ column. non_members_writes) (λ column. non_members_line)
 is_form NoticeForm = form_of NoticeForm notice_from NoticeValue (λ column text. refl) notice_writes notice_line
 is_form ActionForm = form_of ActionForm action_from ActionValue (λ column text. refl) action_writes action_line
+is_form ReportForm = form_of ReportForm report_from ReportValue (λ column text. refl) report_writes report_line
+is_form PatternForm =
+    form_of PatternForm (λ column text. pattern_from text) TextValue (λ column text. refl) (λ column. pattern_writes) (λ column. pattern_line)
+is_form ScheduleForm =
+    form_of ScheduleForm (λ column text. schedule_from text) TextValue (λ column text. refl) (λ column. schedule_writes) (λ column. schedule_line)
 
 -- a value that is written is read
 pub value_reads : (form : ValueForm) (column : ℕ) (text : List ℕ) (value : Value) → WritesValue form text value
@@ -81,6 +88,12 @@ value_reads NoticeForm column text (NoticeValue notice) w =
     then_ok (notice_from column text) notice (λ x. Ok (NoticeValue x)) (notice_reads column text notice w)
 value_reads ActionForm column text (ActionValue action) w =
     then_ok (action_from column text) action (λ x. Ok (ActionValue x)) (action_reads column text action w)
+value_reads ReportForm column text (ReportValue kind) w =
+    then_ok (report_from column text) kind (λ x. Ok (ReportValue x)) (report_reads column text kind w)
+value_reads PatternForm column text (TextValue pattern) w =
+    then_ok (pattern_from text) pattern (λ x. Ok (TextValue x)) (pattern_reads text pattern w)
+value_reads ScheduleForm column text (TextValue schedule) w =
+    then_ok (schedule_from text) schedule (λ x. Ok (TextValue x)) (schedule_reads text schedule w)
 value_reads form column text value w = absurd w
 
 -- the test of two forms
@@ -101,6 +114,9 @@ form_same MembersForm MembersForm h = refl
 form_same NonMembersForm NonMembersForm h = refl
 form_same NoticeForm NoticeForm h = refl
 form_same ActionForm ActionForm h = refl
+form_same ReportForm ReportForm h = refl
+form_same PatternForm PatternForm h = refl
+form_same ScheduleForm ScheduleForm h = refl
 form_same a b h = absurd (cc h)
 
 pub form_is_itself : (form : ValueForm) → same_form form form ≡ true
@@ -116,3 +132,6 @@ form_is_itself MembersForm = refl
 form_is_itself NonMembersForm = refl
 form_is_itself NoticeForm = refl
 form_is_itself ActionForm = refl
+form_is_itself ReportForm = refl
+form_is_itself PatternForm = refl
+form_is_itself ScheduleForm = refl

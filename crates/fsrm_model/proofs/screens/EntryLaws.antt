@@ -7,7 +7,7 @@ use Rattle.fsrm_model.specs.declared.command.AdminDeed.TheVariants.{List as Admi
 use Rattle.fsrm_model.specs.declared.command.AutoquotaDeed.TheVariants.{List as AutoquotaList}
 use Rattle.fsrm_model.specs.declared.command.Command.{Command}
 use Rattle.fsrm_model.specs.declared.command.Deed.{Deed}
-use Rattle.fsrm_model.specs.declared.command.Deed.TheVariants.{File, Step, Quota, Template, Autoquota, Filegroup, Screen, Exception, Admin}
+use Rattle.fsrm_model.specs.declared.command.Deed.TheVariants.{File, Step, Quota, Template, Autoquota, Filegroup, Screen, Exception, Reports, Admin}
 use Rattle.fsrm_model.specs.declared.command.ExceptionDeed.TheVariants.{List as ExceptionList}
 use Rattle.fsrm_model.specs.declared.command.FileOp.{FileOp}
 use Rattle.fsrm_model.specs.declared.command.FileOp.TheVariants.{Mkdir, Create, Resize, Touch, Move, Remove}
@@ -17,6 +17,7 @@ use Rattle.fsrm_model.specs.declared.command.Outcome.TheVariants.{Done, Refused}
 use Rattle.fsrm_model.specs.declared.command.QuotaDeed.TheVariants.{List as QuotaList}
 use Rattle.fsrm_model.specs.declared.command.Refusal.{Refusal}
 use Rattle.fsrm_model.specs.declared.command.Refusal.TheVariants.{ClockBack, ScreenBlocked, QuotaExceeded}
+use Rattle.fsrm_model.specs.declared.command.ReportsDeed.TheVariants.{List as ReportsList}
 use Rattle.fsrm_model.specs.declared.command.ScreenDeed.TheVariants.{List as ScreenList}
 use Rattle.fsrm_model.specs.declared.command.TemplateDeed.TheVariants.{List as TemplateList}
 use Rattle.fsrm_model.specs.declared.row.AuditRow.{AuditRow}
@@ -68,6 +69,7 @@ is_told K R moment (Autoquota AutoquotaList) = record { log = refl; told = refl;
 is_told K R moment (Filegroup FilegroupList) = record { log = refl; told = refl; lasts = λ h. refl }
 is_told K R moment (Screen ScreenList) = record { log = refl; told = refl; lasts = λ h. refl }
 is_told K R moment (Exception ExceptionList) = record { log = refl; told = refl; lasts = λ h. refl }
+is_told K R moment (Reports ReportsList) = record { log = refl; told = refl; lasts = λ h. refl }
 is_told K R moment (Admin AdminList) = record { log = refl; told = refl; lasts = λ h. refl }
 is_told K R moment other = record { log = refl; told = refl; lasts = λ h. refl }
 
@@ -163,6 +165,7 @@ reports K R moment (Autoquota AutoquotaList) folder none h = absurd (cc h)
 reports K R moment (Filegroup FilegroupList) folder none h = absurd (cc h)
 reports K R moment (Screen ScreenList) folder none h = absurd (cc h)
 reports K R moment (Exception ExceptionList) folder none h = absurd (cc h)
+reports K R moment (Reports ReportsList) folder none h = absurd (cc h)
 reports K R moment (Admin AdminList) folder none h = absurd (cc h)
 reports K R moment other folder none h = absurd (cc h)
 

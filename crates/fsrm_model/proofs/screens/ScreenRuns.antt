@@ -9,7 +9,7 @@ use Rattle.fsrm_model.specs.declared.command.AdminDeed.TheVariants.{List as Admi
 use Rattle.fsrm_model.specs.declared.command.AutoquotaDeed.TheVariants.{List as AutoquotaList}
 use Rattle.fsrm_model.specs.declared.command.Command.{Command}
 use Rattle.fsrm_model.specs.declared.command.Deed.{Deed}
-use Rattle.fsrm_model.specs.declared.command.Deed.TheVariants.{File, Quota, Template, Autoquota, Filegroup, Screen, Exception, Admin}
+use Rattle.fsrm_model.specs.declared.command.Deed.TheVariants.{File, Quota, Template, Autoquota, Filegroup, Screen, Exception, Reports, Admin}
 use Rattle.fsrm_model.specs.declared.command.ExceptionDeed.TheVariants.{List as ExceptionList}
 use Rattle.fsrm_model.specs.declared.command.FileOp.{FileOp}
 use Rattle.fsrm_model.specs.declared.command.FileOp.TheVariants.{Mkdir, Create, Resize, Touch, Move, Remove}
@@ -19,6 +19,7 @@ use Rattle.fsrm_model.specs.declared.command.Outcome.TheVariants.{Done, Refused}
 use Rattle.fsrm_model.specs.declared.command.QuotaDeed.TheVariants.{List as QuotaList}
 use Rattle.fsrm_model.specs.declared.command.Refusal.{Refusal}
 use Rattle.fsrm_model.specs.declared.command.Refusal.TheVariants.{ScreenBlocked, QuotaExceeded}
+use Rattle.fsrm_model.specs.declared.command.ReportsDeed.TheVariants.{List as ReportsList}
 use Rattle.fsrm_model.specs.declared.command.ScreenDeed.TheVariants.{List as ScreenList}
 use Rattle.fsrm_model.specs.declared.command.TemplateDeed.TheVariants.{List as TemplateList}
 use Rattle.fsrm_model.specs.declared.row.Capacity.{Capacity}
@@ -81,6 +82,7 @@ keeps_limit K R moment (Autoquota AutoquotaList) j h = absurd (cc h)
 keeps_limit K R moment (Filegroup FilegroupList) j h = absurd (cc h)
 keeps_limit K R moment (Screen ScreenList) j h = absurd (cc h)
 keeps_limit K R moment (Exception ExceptionList) j h = absurd (cc h)
+keeps_limit K R moment (Reports ReportsList) j h = absurd (cc h)
 keeps_limit K R moment (Admin AdminList) j h = absurd (cc h)
 keeps_limit K R moment other j h = absurd (cc h)
 

@@ -10,6 +10,7 @@ use Rattle.fsrm_model.specs.declared.row.AutoRow.{AutoRow}
 use Rattle.fsrm_model.specs.declared.row.Capacity.{Capacity}
 use Rattle.fsrm_model.specs.declared.row.ExceptRow.{ExceptRow}
 use Rattle.fsrm_model.specs.declared.row.GroupRow.{GroupRow}
+use Rattle.fsrm_model.specs.declared.row.JobRow.{JobRow}
 use Rattle.fsrm_model.specs.declared.row.NodeRow.{NodeRow}
 use Rattle.fsrm_model.specs.declared.row.QuotaRow.{QuotaRow}
 use Rattle.fsrm_model.specs.declared.row.Rows.{Rows}
@@ -27,10 +28,11 @@ use Rattle.fsrm_model.specs.objects.Scan.{AreUnvisited, folders_under, visits}
 use Rattle.fsrm_model.specs.objects.Screens.{screen_folder}
 use Rattle.fsrm_model.specs.values.Texts.{action_bytes, quota_bytes, object_texts}
 use Rattle.fsrm_model.specs.nodes.Tree.{is_folder, usage}
-use Rattle.fsrm_model.specs.store.Valid.{is_moment, has_source, is_audit, are_audits, are_groups, are_screens, are_excepts, are_templates, are_autos, IsVolume, AreQuotas, AreTables, IsValid}
+use Rattle.fsrm_model.specs.store.Valid.{is_moment, has_source, is_audit, are_audits, are_groups, are_jobs, are_screens, are_excepts, are_templates, are_autos, IsVolume, AreQuotas, AreTables, IsValid}
 use Rattle.fsrm_model.specs.store.ValidScans.{IsQueue, AreLeft}
 use Rattle.fsrm_model.specs.commands.Work.{Judged}
 use Rattle.fsrm_base.proofs.Look.{has_found, found_key}
+use Rattle.fsrm_model.proofs.valid.JobsKept.{jobs_stay}
 use Rattle.fsrm_model.proofs.valid.QueueKept.{queue_peaked, queue_mapped}
 use Rattle.fsrm_model.proofs.valid.QuotasKept.{quotas-peaked, quotas-ran}
 use Rattle.fsrm_model.proofs.thresholds.KeptLaws.{sum_by-same, same_texts, bytes_run, screen_bytes_run, all_dropped, log_run}
@@ -56,7 +58,7 @@ valid_with K R nodes quotas queue unvisited last s volume folders are sources fe
       sources = sources;
       templates = s.tables.templates;
       autos = autos_stay R.nodes nodes R.templates R.templates R.autos folders (λ n h. h) s.tables.autos;
-      jobs = s.tables.jobs;
+      jobs = jobs_stay R.nodes nodes R.jobs folders s.tables.jobs;
       groups = s.tables.groups;
       screens = screens_stay R.nodes nodes R.groups R.groups R.excepts R.screens folders (λ n h. h) s.tables.screens;
       excepts = excepts_stay R.nodes nodes R.groups R.groups R.excepts folders (λ n h. h) s.tables.excepts;
@@ -242,6 +244,31 @@ screens_followed K R groups screens excepts s are barred lifted few =
         groups = are;
         screens = barred;
         excepts = lifted;
+        audits = v.tables.audits;
+      };
+      texts = few;
+      log = v.log;
+      run_limit = v.run_limit;
+      last_moment = v.last_moment;
+      queue = v.queue;
+      unvisited = v.unvisited;
+    }
+
+-- other report jobs alone
+pub jobs_followed : (K : Capacity) (R : Rows) (jobs : List JobRow) → IsValid K R → are_jobs R.nodes jobs ≡ true → object_texts (record R { jobs = jobs }) ≤ most_text_bytes → IsValid K (followed R (record R { jobs = jobs }))
+jobs_followed K R jobs s are few =
+    let v = nothing_followed K R s in
+    record {
+      volume = v.volume;
+      quotas = v.quotas;
+      tables = record {
+        sources = v.tables.sources;
+        templates = v.tables.templates;
+        autos = v.tables.autos;
+        jobs = are;
+        groups = v.tables.groups;
+        screens = v.tables.screens;
+        excepts = v.tables.excepts;
         audits = v.tables.audits;
       };
       texts = few;

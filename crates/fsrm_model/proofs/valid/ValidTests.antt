@@ -16,7 +16,7 @@ use Rattle.fsrm_model.specs.objects.Scan.{are_unvisited, AreUnvisited}
 use Rattle.fsrm_model.specs.values.Texts.{object_texts}
 use Rattle.fsrm_model.specs.objects.Thresholds.{are_thresholds}
 use Rattle.fsrm_model.specs.nodes.Tree.{number, is_folder, is_under}
-use Rattle.fsrm_model.specs.store.Valid.{is_moment, is_tree, is_empty, has_source, is_sound_quota, are_quotas, AreQuotas, are_templates, are_autos, are_groups, are_screens, are_excepts, are_audits, are_tables, AreTables, are_entries, is_valid, IsValid}
+use Rattle.fsrm_model.specs.store.Valid.{is_moment, is_tree, has_source, is_sound_quota, are_quotas, AreQuotas, are_templates, are_autos, are_groups, are_jobs, are_screens, are_excepts, are_audits, are_tables, AreTables, are_entries, is_valid, IsValid}
 use Rattle.fsrm_model.specs.store.ValidScans.{is_waiting, is_queue, IsQueue, are_left, AreLeft}
 use Rattle.fsrm_model.proofs.nodes.Keeps.{folder_found, found_folder}
 use Rattle.fsrm_base.proofs.Look.{found_key, found_has, has_found}
@@ -160,21 +160,17 @@ test_by_left nodes None unvisited asc h = ap (are_left nodes None) h
 test_by_left nodes (Some scanned) unvisited asc h = test_by_unvisited nodes scanned unvisited asc h
 
 -- the other tables
-empty_is : {X : Type 0} (xs : List X) → is_empty xs ≡ true → xs ≡ []
-empty_is [] h = refl
-empty_is (x ∷ xs) h = absurd (cc h)
-
 pub tables_by_test : (R : Rows) → are_tables R ≡ true → AreTables R
 tables_by_test R h =
     let sources = list_all (has_source R.templates) R.quotas in
     let ruled = are_autos R.nodes R.templates R.autos in
-    let named = are_templates R.templates && (ruled && is_empty R.jobs) in
+    let named = are_templates R.templates && (ruled && are_jobs R.nodes R.jobs) in
     let barred = are_screens R.nodes R.groups R.excepts R.screens in
     let lifted = are_excepts R.nodes R.groups R.excepts in
     let halves : ((sources && named) ≡ true) × (((are_groups R.groups && barred) && (lifted && are_audits R.audits)) ≡ true) = both _ _ h in
     let quotas : (sources ≡ true) × (named ≡ true) = both _ _ halves.0 in
-    let one : (are_templates R.templates ≡ true) × ((ruled && is_empty R.jobs) ≡ true) = both _ _ quotas.1 in
-    let two : (ruled ≡ true) × (is_empty R.jobs ≡ true) = both _ _ one.1 in
+    let one : (are_templates R.templates ≡ true) × ((ruled && are_jobs R.nodes R.jobs) ≡ true) = both _ _ quotas.1 in
+    let two : (ruled ≡ true) × (are_jobs R.nodes R.jobs ≡ true) = both _ _ one.1 in
     let rest : ((are_groups R.groups && barred) ≡ true) × ((lifted && are_audits R.audits) ≡ true) = both _ _ halves.1 in
     let grouped : (are_groups R.groups ≡ true) × (barred ≡ true) = both _ _ rest.0 in
     let last : (lifted ≡ true) × (are_audits R.audits ≡ true) = both _ _ rest.1 in
@@ -182,7 +178,7 @@ tables_by_test R h =
       sources = quotas.0;
       templates = one.0;
       autos = two.0;
-      jobs = empty_is R.jobs two.1;
+      jobs = two.1;
       groups = grouped.0;
       screens = grouped.1;
       excepts = last.0;
@@ -193,13 +189,13 @@ pub test_by_tables : (R : Rows) → AreTables R → are_tables R ≡ true
 test_by_tables R t =
     let sources = list_all (has_source R.templates) R.quotas in
     let ruled = are_autos R.nodes R.templates R.autos in
-    let named = are_templates R.templates && (ruled && is_empty R.jobs) in
+    let named = are_templates R.templates && (ruled && are_jobs R.nodes R.jobs) in
     let barred = are_screens R.nodes R.groups R.excepts R.screens in
     let lifted = are_excepts R.nodes R.groups R.excepts in
     both_true (sources && named) ((are_groups R.groups && barred) && (lifted && are_audits R.audits))
     (both_true sources named t.sources
-    (both_true (are_templates R.templates) (ruled && is_empty R.jobs) t.templates
-    (both_true ruled (is_empty R.jobs) t.autos (ap is_empty t.jobs))))
+    (both_true (are_templates R.templates) (ruled && are_jobs R.nodes R.jobs) t.templates
+    (both_true ruled (are_jobs R.nodes R.jobs) t.autos t.jobs)))
     (both_true (are_groups R.groups && barred) (lifted && are_audits R.audits)
     (both_true (are_groups R.groups) barred t.groups t.screens) (both_true lifted (are_audits R.audits) t.excepts t.audits))
 

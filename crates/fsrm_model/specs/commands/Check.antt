@@ -4,7 +4,7 @@ use Rattle.fsrm_model.specs.declared.row.Capacity.{Capacity}
 use Rattle.fsrm_model.specs.declared.row.Rows.{Rows}
 use Rattle.fsrm_model.specs.declared.command.Refusal.{Refusal}
 use Rattle.fsrm_model.specs.declared.command.Refusal.TheVariants.{VolumeFull, NamesFull, TableFull, TextsFull}
-use Rattle.fsrm_model.specs.values.Limits.{most_quotas, most_templates, most_autos, most_groups, most_screens, most_excepts, most_text_bytes}
+use Rattle.fsrm_model.specs.values.Limits.{most_quotas, most_templates, most_autos, most_groups, most_screens, most_excepts, most_jobs, most_text_bytes}
 use Rattle.fsrm_model.specs.values.Texts.{object_texts}
 use Rattle.fsrm_model.specs.nodes.Tree.{name_bytes}
 pub use Rattle.fsrm_base.specs.Causes.{◌when◌, first}
@@ -37,6 +37,9 @@ screens_full after = TableFull when nat_lt most_screens (length after.screens)
 
 abbrev pub excepts_full : Rows → Check
 excepts_full after = TableFull when nat_lt most_excepts (length after.excepts)
+
+abbrev pub jobs_full : Rows → Check
+jobs_full after = TableFull when nat_lt most_jobs (length after.jobs)
 
 abbrev pub texts_full : Rows → Check
 texts_full after = TextsFull when nat_lt most_text_bytes (object_texts after)

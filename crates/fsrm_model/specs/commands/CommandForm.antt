@@ -59,7 +59,7 @@ on_path kind deed path work =
       work = work;
     })
 
--- one that has the name of a group or of a template and no other value
+-- one that has the name of a group, a template or a report job and no other value
 abbrev pub on_name : ℕ → (List ℕ → Deed) → List ℕ → (Capacity → Rows → ℕ → Work) → CommandForm
 on_name kind deed name work =
     kept (record {

@@ -10,7 +10,7 @@ use Rattle.fsrm_model.specs.declared.command.AdminDeed.TheVariants.{Options as A
 use Rattle.fsrm_model.specs.declared.command.AutoquotaDeed.{AutoquotaDeed}
 use Rattle.fsrm_model.specs.declared.command.AutoquotaDeed.TheVariants.{Add as AutoquotaAdd, Delete as AutoquotaDelete, List as AutoquotaList}
 use Rattle.fsrm_model.specs.declared.command.Deed.{Deed}
-use Rattle.fsrm_model.specs.declared.command.Deed.TheVariants.{File, Usage, Step, Quota, Template, Autoquota, Filegroup, Screen, Exception, Admin}
+use Rattle.fsrm_model.specs.declared.command.Deed.TheVariants.{File, Usage, Step, Quota, Template, Autoquota, Filegroup, Screen, Exception, Reports, Admin}
 use Rattle.fsrm_model.specs.declared.command.ExceptionDeed.{ExceptionDeed}
 use Rattle.fsrm_model.specs.declared.command.ExceptionDeed.TheVariants.{Add as ExceptionAdd, Delete as ExceptionDelete, List as ExceptionList}
 use Rattle.fsrm_model.specs.declared.command.FileOp.{FileOp}
@@ -21,13 +21,17 @@ use Rattle.fsrm_model.specs.declared.command.FilegroupDeed.TheVariants.{Add as F
 use Rattle.fsrm_model.specs.declared.command.NewAutoquota.{NewAutoquota}
 use Rattle.fsrm_model.specs.declared.command.NewException.{NewException}
 use Rattle.fsrm_model.specs.declared.command.NewFilegroup.{NewFilegroup}
+use Rattle.fsrm_model.specs.declared.command.NewJob.{NewJob}
 use Rattle.fsrm_model.specs.declared.command.NewQuota.{NewQuota}
+use Rattle.fsrm_model.specs.declared.command.NewReport.{NewReport}
 use Rattle.fsrm_model.specs.declared.command.NewScreen.{NewScreen}
 use Rattle.fsrm_model.specs.declared.command.NewTemplate.{NewTemplate}
 use Rattle.fsrm_model.specs.declared.command.NewThresholds.{NewThresholds}
 use Rattle.fsrm_model.specs.declared.command.QuotaChange.{QuotaChange}
 use Rattle.fsrm_model.specs.declared.command.QuotaDeed.{QuotaDeed}
 use Rattle.fsrm_model.specs.declared.command.QuotaDeed.TheVariants.{Add as QuotaAdd, Modify as QuotaModify, Delete as QuotaDelete, Scan as QuotaScan, Resetpeak as QuotaResetpeak, List as QuotaList}
+use Rattle.fsrm_model.specs.declared.command.ReportsDeed.{ReportsDeed}
+use Rattle.fsrm_model.specs.declared.command.ReportsDeed.TheVariants.{Generate as ReportsGenerate, Add as ReportsAdd, Delete as ReportsDelete, Run as ReportsRun, List as ReportsList}
 use Rattle.fsrm_model.specs.declared.command.ScreenChange.{ScreenChange}
 use Rattle.fsrm_model.specs.declared.command.ScreenDeed.{ScreenDeed}
 use Rattle.fsrm_model.specs.declared.command.ScreenDeed.TheVariants.{Add as ScreenAdd, Modify as ScreenModify, Delete as ScreenDelete, List as ScreenList}
@@ -35,33 +39,32 @@ use Rattle.fsrm_model.specs.declared.command.TemplateChange.{TemplateChange}
 use Rattle.fsrm_model.specs.declared.command.TemplateDeed.{TemplateDeed}
 use Rattle.fsrm_model.specs.declared.command.TemplateDeed.TheVariants.{Add as TemplateAdd, Modify as TemplateModify, Delete as TemplateDelete, List as TemplateList}
 use Rattle.fsrm_model.specs.declared.command.Update.TheVariants.{Keep}
+use Rattle.fsrm_model.specs.declared.row.Filter.{Filter}
+use Rattle.fsrm_model.specs.declared.row.ReportKind.TheVariants.{LargeFiles}
 use Rattle.fsrm_model.specs.commands.AdminWork.{options_work, settings_work, log_work}
 use Rattle.fsrm_model.specs.commands.AutoWork.{auto_add_work, auto_delete_work, auto_list_work}
-use Rattle.fsrm_model.specs.commands.Entry.{Path, number_bytes, choice_bytes, text_bytes, path_bytes, optional, counted, notice_bytes, screen_notice_bytes}
+use Rattle.fsrm_model.specs.commands.Entry.{Path, number_bytes, choice_bytes, text_bytes, path_bytes, optional, counted, notice_bytes, screen_notice_bytes, filter_bytes}
 use Rattle.fsrm_model.specs.nodes.FileOps.{target}
 use Rattle.fsrm_model.specs.commands.FileWork.{file_work, usage_work}
 use Rattle.fsrm_model.specs.commands.CommandForm.{CommandForm, EntryForm, kept, on_path, on_name, shows}
 use Rattle.fsrm_model.specs.commands.GroupWork.{group_add_work, group_modify_work, group_delete_work, group_list_work}
 use Rattle.fsrm_model.specs.nodes.Leads.{leads, leads_to_folder}
-use Rattle.fsrm_model.specs.values.Limits.{longest_file, last_owner, most_visits, most_minutes, most_excluded}
+use Rattle.fsrm_model.specs.values.Limits.{most_visits, most_minutes, most_excluded}
 use Rattle.fsrm_model.specs.values.Name.{is_name}
 use Rattle.fsrm_model.specs.values.Patterns.{is_object_name, are_members, are_non_members}
+use Rattle.fsrm_model.specs.objects.Jobs.{is_schedule}
 use Rattle.fsrm_model.specs.objects.Quota.{is_limit}
 use Rattle.fsrm_model.specs.commands.QuotaWork.{add_work, modify_work, delete_work, reset_work, list_work}
+use Rattle.fsrm_model.specs.commands.ReportWork.{no_filter, report_work, job_add_work, job_delete_work, job_run_work, job_list_work}
 use Rattle.fsrm_model.specs.commands.ScanWork.{scan_work, step_work}
 use Rattle.fsrm_model.specs.commands.ScreenWork.{screen_add_work, screen_modify_work, screen_delete_work, screen_list_work, except_add_work, except_delete_work, except_list_work}
 use Rattle.fsrm_model.specs.commands.TemplateWork.{template_add_work, template_modify_work, template_delete_work, template_list_work}
 use Rattle.fsrm_model.specs.objects.Thresholds.{is_percent, is_new_action, is_notice}
 use Rattle.fsrm_model.specs.nodes.Tree.{children, under}
 use Rattle.fsrm_model.specs.commands.Work.{Work}
+pub use Rattle.fsrm_model.specs.reports.Filters.{is_owner, is_length, is_filter}
 
 -- ---- values
-abbrev pub is_owner : ℕ → Bool
-is_owner owner = nat_le 1 owner && nat_le owner last_owner
-
-abbrev pub is_length : ℕ → Bool
-is_length length = nat_le length longest_file
-
 -- one name of a group at least
 abbrev pub are_some_names : List (List ℕ) → Bool
 are_some_names names = nat_lt 0 (length names) && list_all is_object_name names
@@ -110,6 +113,9 @@ is_screen_change change = list_all is_object_name change.removed && list_all is_
 
 abbrev pub is_new_exception : NewException → Bool
 is_new_exception new = are_some_names new.groups
+
+abbrev pub is_new_job : NewJob → Bool
+is_new_job new = is_object_name new.name && (option_map_or is_schedule new.schedule true && is_filter new.filter)
 
 -- ---- their bytes in the entry of a command, but for those of its paths
 abbrev pub limit_bytes : Option ℕ → ℕ
@@ -181,6 +187,12 @@ empty_screen_change = record { path = []; active = None; removed = []; groups = 
 
 abbrev pub empty_exception : NewException
 empty_exception = record { path = []; groups = [] }
+
+abbrev pub empty_report : NewReport
+empty_report = record { kind = LargeFiles; scope = []; filter = no_filter }
+
+abbrev pub empty_job : NewJob
+empty_job = record { name = []; kind = LargeFiles; scope = []; schedule = None; filter = no_filter }
 
 -- ---- file operations
 -- What there is to say of a file operation but its work, which `form` adds: so the work of any operation computes
@@ -382,6 +394,26 @@ form_of_exception (ExceptionDelete path) =
     on_path 61 (λ p. Exception (ExceptionDelete p)) path (λ K R moment. except_delete_work R path)
 form_of_exception ExceptionList = shows (Exception ExceptionList) [] (λ K R moment. except_list_work R)
 
+abbrev pub form_of_reports : ReportsDeed → CommandForm
+form_of_reports (ReportsGenerate new) =
+    record (shows (Reports (ReportsGenerate empty_report)) (new.scope ∷ []) (λ K R moment. report_work R new)) {
+      legal = is_filter new.filter;
+    }
+form_of_reports (ReportsAdd new) =
+    kept (record {
+      kind = 70;
+      emptied = Reports (ReportsAdd empty_job);
+      paths = new.scope ∷ [];
+      legal = is_new_job new;
+      bytes = text_bytes new.name + (choice_bytes + (optional text_bytes new.schedule + filter_bytes new.filter));
+      work = λ K R moment. job_add_work R moment new;
+    })
+form_of_reports (ReportsDelete name) =
+    on_name 71 (λ n. Reports (ReportsDelete n)) name (λ K R moment. job_delete_work R name)
+form_of_reports (ReportsRun name) =
+    on_name 72 (λ n. Reports (ReportsRun n)) name (λ K R moment. job_run_work R moment name)
+form_of_reports ReportsList = shows (Reports ReportsList) [] (λ K R moment. job_list_work R)
+
 -- a node that is summed is looked at up to 4 times
 abbrev pub form : Deed → CommandForm
 form (File op) =
@@ -407,6 +439,7 @@ form (Admin deed) = form_of_admin deed
 form (Filegroup deed) = form_of_filegroup deed
 form (Screen deed) = form_of_screen deed
 form (Exception deed) = form_of_exception deed
+form (Reports deed) = form_of_reports deed
 
 -- ---- the parts of a row, by their names
 abbrev pub paths : Deed → List Path

@@ -1,5 +1,6 @@
 -- How many looks at nodes a command may take. A look is one node of the tree that is read, compared or lent.
 use Rattle.std.specs.Prelude.{ℕ, ◌+◌, ◌*◌, nat_lt, List, length, sum_by, Some, if◌then◌else◌}
+use Rattle.fsrm_model.specs.declared.row.Capacity.{Capacity}
 use Rattle.fsrm_model.specs.declared.row.NodeRow.{NodeRow}
 use Rattle.fsrm_model.specs.declared.row.Rows.{Rows}
 use Rattle.fsrm_model.specs.declared.command.Act.{Act}
@@ -8,15 +9,19 @@ use Rattle.fsrm_model.specs.declared.command.Deed.{Deed}
 use Rattle.fsrm_model.specs.declared.command.Deed.TheVariants.{Step}
 use Rattle.fsrm_model.specs.declared.command.Outcome.{Outcome}
 use Rattle.fsrm_model.specs.declared.command.Ask.{Ask}
-use Rattle.fsrm_model.specs.declared.command.Ask.TheVariants.{Quotas, Templates, Autos, Groups, Screens, Excepts, Settings, Acts}
-use Rattle.fsrm_model.specs.declared.command.Outcome.TheVariants.{Done, Sum, Listing, Scanned, Refused}
+use Rattle.fsrm_model.specs.declared.command.Ask.TheVariants.{Quotas, Templates, Autos, Groups, Screens, Excepts, Jobs, Settings, Acts}
+use Rattle.fsrm_model.specs.declared.command.Outcome.TheVariants.{Done, Sum, Listing, Report, Scanned, Refused}
 use Rattle.fsrm_model.specs.declared.command.Refusal.TheVariants.{ScreenBlocked, QuotaExceeded}
+use Rattle.fsrm_model.specs.declared.report.ReportAsk.{ReportAsk}
+use Rattle.fsrm_model.specs.declared.report.ReportRow.{ReportRow}
+use Rattle.fsrm_model.specs.declared.report.ReportRow.TheVariants.{File, Quota}
 use Rattle.fsrm_base.specs.Numbers.{without_numbers}
 use Rattle.fsrm_model.specs.objects.Acts.{folder_in}
 pub use Rattle.fsrm_model.specs.commands.Commands.{op_cost, more_cost}
 use Rattle.fsrm_model.specs.commands.Commands.{paths}
 use Rattle.fsrm_model.specs.objects.Scan.{visits}
 use Rattle.fsrm_model.specs.nodes.Tree.{children, path_of}
+use Rattle.fsrm_model.specs.reports.Reports.{table}
 use Rattle.fsrm_model.specs.texts.Text.{asked}
 
 -- the names of all paths of a command
@@ -51,18 +56,34 @@ list_cost R Autos = sum_by (λ auto. path_cost R.nodes auto.folder) R.autos
 list_cost R Groups = 0
 list_cost R Screens = sum_by (λ screen. path_cost R.nodes screen.folder) R.screens
 list_cost R Excepts = sum_by (λ except. path_cost R.nodes except.folder) R.excepts
+list_cost R Jobs = sum_by (λ job. path_cost R.nodes job.scope) R.jobs
 list_cost R Settings = 0
 list_cost R Acts = 0
 
--- the looks at all paths of a reply but those of its acts
-abbrev pub print_cost : Rows → Outcome → ℕ
-print_cost R (Done (Some screen)) = path_cost R.nodes screen
-print_cost R (Sum node bytes) = path_cost R.nodes node
-print_cost R (Listing ask) = list_cost R ask
-print_cost R (Scanned folder visited used) = path_cost R.nodes folder
-print_cost R (Refused (ScreenBlocked screen)) = path_cost R.nodes screen
-print_cost R (Refused (QuotaExceeded folder would limit)) = path_cost R.nodes folder
-print_cost R other = 0
+-- the looks at a row of a report: at its path, if it has one, and at the file itself
+abbrev pub row_cost : List NodeRow → ReportRow → ℕ
+row_cost nodes (File node alloc) = 1 + path_cost nodes node
+row_cost nodes (Quota folder percent) = path_cost nodes folder
+row_cost nodes other = 0
+
+abbrev pub rows_cost : List NodeRow → List ReportRow → ℕ
+rows_cost nodes rows = sum_by (row_cost nodes) rows
+
+-- the looks at all paths of a reply to a command of this moment, but those of its acts
+abbrev pub print_cost : Capacity → Rows → ℕ → Outcome → ℕ
+print_cost K R moment (Done (Some screen)) = path_cost R.nodes screen
+print_cost K R moment (Sum node bytes) = path_cost R.nodes node
+print_cost K R moment (Listing ask) = list_cost R ask
+print_cost K R moment (Report ask) = rows_cost R.nodes (table K R ask moment)
+print_cost K R moment (Scanned folder visited used) = path_cost R.nodes folder
+print_cost K R moment (Refused (ScreenBlocked screen)) = path_cost R.nodes screen
+print_cost K R moment (Refused (QuotaExceeded folder would limit)) = path_cost R.nodes folder
+print_cost K R moment other = 0
+
+-- the looks by which a report is made that a reply shows: each node is looked at up to 8 times
+abbrev pub report_cost : List NodeRow → Outcome → ℕ
+report_cost nodes (Report ask) = 8 * length nodes
+report_cost nodes other = 0
 
 -- the looks at the paths of acts
 abbrev pub acts_cost : List NodeRow → List Act → ℕ

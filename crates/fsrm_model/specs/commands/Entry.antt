@@ -5,6 +5,7 @@ use Rattle.std.specs.List.{join_with_byte}
 use Rattle.std.specs.Option.{option_map_or}
 use Rattle.fsrm_model.specs.declared.command.Added.{Added}
 use Rattle.fsrm_model.specs.declared.row.Action.{Action}
+use Rattle.fsrm_model.specs.declared.row.Filter.{Filter}
 
 abbrev pub Path : Type 0
 Path = List (List ℕ)
@@ -41,3 +42,13 @@ notice_bytes notice = number_bytes + (choice_bytes + (number_bytes + text_bytes 
 -- an action of a screen: its kind, minutes and text
 abbrev pub screen_notice_bytes : Action → ℕ
 screen_notice_bytes action = choice_bytes + (number_bytes + text_bytes action.text)
+
+-- what a report is asked for: an owner, a pattern, the fewest bytes of a file, days, the least percentage of a limit, and the most rows
+abbrev pub filter_bytes : Filter → ℕ
+filter_bytes filter =
+    optional (λ n. number_bytes) filter.owner
+    + (optional text_bytes filter.pattern
+    + (optional (λ n. number_bytes) filter.min_size
+    + (optional (λ n. number_bytes) filter.days
+    + (optional (λ n. number_bytes) filter.min_use
+    + number_bytes))))

@@ -14,6 +14,7 @@ use Rattle.fsrm_model.specs.objects.AutoApply.{applied, with_quotas, without_aut
 use Rattle.fsrm_model.specs.nodes.FileOps.{plain, new_node, target, target_folder}
 use Rattle.fsrm_model.specs.commands.Check.{Check, ◌when◌, volume_full, names_full, table_full, texts_full}
 use Rattle.fsrm_base.specs.Numbers.{without_number}
+use Rattle.fsrm_model.specs.objects.Jobs.{without_jobs}
 use Rattle.fsrm_model.specs.objects.Quota.{exceeded}
 use Rattle.fsrm_model.specs.objects.QuotaStates.{head, without_quota}
 use Rattle.fsrm_model.specs.objects.Scan.{unvisited_with, unvisited_moved}
@@ -92,9 +93,9 @@ unvisited_in R nodes other scanned = R.unvisited
 abbrev pub unvisited_after : Rows → List NodeRow → FileOp → List ℕ
 unvisited_after R nodes op = option_map_or (unvisited_in R nodes op) (head R.queue) []
 
--- the objects of a folder go with it: its quota, its auto-apply quota, its screen and its exception
+-- the objects of a folder go with it: its quota, its auto-apply quota, its screen, its exception, and the jobs that report on it
 abbrev pub without_objects : Rows → ℕ → Rows
-without_objects R folder = without_screens (without_auto (without_quota R folder) folder) folder
+without_objects R folder = without_jobs (without_screens (without_auto (without_quota R folder) folder) folder) folder
 
 abbrev pub objects_after : FileOp → Rows → Rows → Rows
 objects_after (Remove path) R after = without_objects after (target R.nodes path)

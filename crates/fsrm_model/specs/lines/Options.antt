@@ -4,8 +4,8 @@ use Rattle.std.specs.List.{list_any, before_first, after_first}
 use Rattle.std.specs.Option.{option_or}
 use Rattle.std.specs.Str.{str_eq_ignore_ascii_case}
 use Rattle.fsrm_model.specs.declared.command.Refusal.TheVariants.{BadLine, OutOfRange}
-use Rattle.fsrm_model.specs.lines.ValueForms.{ValueForm, PathForm, LimitForm, NumberForm, ChoiceForm, UpdateForm, ObjectForm, NameForm, MembersForm, NonMembersForm, NoticeForm, ActionForm, Value, value_from, same_form}
-use Rattle.fsrm_model.specs.values.Limits.{greatest_percent, most_excluded, most_minutes}
+use Rattle.fsrm_model.specs.lines.ValueForms.{ValueForm, PathForm, LimitForm, NumberForm, ChoiceForm, UpdateForm, ObjectForm, NameForm, MembersForm, NonMembersForm, NoticeForm, ActionForm, ReportForm, PatternForm, ScheduleForm, Value, value_from, same_form}
+use Rattle.fsrm_model.specs.values.Limits.{greatest_percent, last_owner, longest_file, most_days, most_excluded, most_minutes, most_rows, most_use}
 use Rattle.fsrm_model.specs.lines.Reading.{Read, ◌>>=◌, guarded, known}
 use Rattle.fsrm_model.specs.lines.Words.{Word}
 
@@ -89,6 +89,36 @@ add_filegroup_key = repeated (codes "/Add-Filegroup") ObjectForm
 
 abbrev pub screen_notification_key : Key
 screen_notification_key = repeated (codes "/Add-Notification") ActionForm
+
+abbrev pub task_key : Key
+task_key = once (codes "/Task") ObjectForm
+
+abbrev pub report_key : Key
+report_key = once (codes "/Report") ReportForm
+
+abbrev pub scope_key : Key
+scope_key = once (codes "/Scope") PathForm
+
+abbrev pub schedule_key : Key
+schedule_key = once (codes "/Schedule") ScheduleForm
+
+abbrev pub owner_key : Key
+owner_key = once (codes "/Owner") (NumberForm 1 last_owner)
+
+abbrev pub pattern_key : Key
+pattern_key = once (codes "/Pattern") PatternForm
+
+abbrev pub min_size_key : Key
+min_size_key = once (codes "/MinSize") (NumberForm 0 longest_file)
+
+abbrev pub days_key : Key
+days_key = once (codes "/Days") (NumberForm 0 most_days)
+
+abbrev pub min_use_key : Key
+min_use_key = once (codes "/MinUse") (NumberForm 0 most_use)
+
+abbrev pub max_key : Key
+max_key = once (codes "/Max") (NumberForm 1 most_rows)
 
 -- ---- what is given
 -- an option, with its value

@@ -9,7 +9,7 @@ use Rattle.fsrm_model.specs.lines.Reading.{Read}
 use Rattle.fsrm_model.specs.lines.Line.{read_line}
 use Rattle.fsrm_model.specs.commands.Step.{step}
 use Rattle.fsrm_model.specs.texts.ActText.{act_lines}
-use Rattle.fsrm_model.specs.commands.Cost.{cost, print_cost, acts_cost}
+use Rattle.fsrm_model.specs.commands.Cost.{cost, print_cost, report_cost, acts_cost}
 use Rattle.fsrm_model.specs.texts.Text.{reply}
 
 -- the byte that ends a line, LF
@@ -75,11 +75,11 @@ text K R script = text_from K R 1 (lines script)
 abbrev pub fold_script : Capacity → Rows → List ℕ → ℕ → Rows
 fold_script K R script j = fold_from K R 1 (take j (lines script))
 
--- how many looks at nodes a line may take: its command, and what is printed of it
+-- how many looks at nodes a line may take: its command, its report, and what is printed of it
 abbrev pub read_cost : Capacity → Rows → Option (Read Command) → ℕ
 read_cost K R None = 0
 read_cost K R (Some (Err refusal)) = 0
-read_cost K R (Some (Ok c)) = let s = step K R c in cost R c + (print_cost s.rows s.outcome + acts_cost s.rows.nodes s.acts)
+read_cost K R (Some (Ok c)) = let s = step K R c in cost R c + (report_cost s.rows.nodes s.outcome + (print_cost K s.rows c.moment s.outcome + acts_cost s.rows.nodes s.acts))
 
 -- how many looks a line of these bytes may take
 unfoldable pub line_cost : Capacity → Rows → List ℕ → ℕ

@@ -4,16 +4,18 @@ use Rattle.std.specs.Str.{str_eq_ignore_ascii_case}
 use Rattle.fsrm_model.specs.declared.command.AdminDeed.TheVariants.{Options as AdminOptions, List as AdminList, Log as AdminLog}
 use Rattle.fsrm_model.specs.declared.command.AutoquotaDeed.TheVariants.{Add as AutoquotaAdd, Delete as AutoquotaDelete, List as AutoquotaList}
 use Rattle.fsrm_model.specs.declared.command.Deed.{Deed}
-use Rattle.fsrm_model.specs.declared.command.Deed.TheVariants.{Quota, Template, Autoquota, Filegroup, Screen, Exception, Admin}
+use Rattle.fsrm_model.specs.declared.command.Deed.TheVariants.{Quota, Template, Autoquota, Filegroup, Screen, Exception, Reports, Admin}
 use Rattle.fsrm_model.specs.declared.command.ExceptionDeed.TheVariants.{Add as ExceptionAdd, Delete as ExceptionDelete, List as ExceptionList}
 use Rattle.fsrm_model.specs.declared.command.FilegroupDeed.TheVariants.{Add as FilegroupAdd, Modify as FilegroupModify, Delete as FilegroupDelete, List as FilegroupList}
 use Rattle.fsrm_model.specs.declared.command.NewThresholds.{NewThresholds}
 use Rattle.fsrm_model.specs.declared.command.QuotaDeed.TheVariants.{Add as QuotaAdd, Modify as QuotaModify, Delete as QuotaDelete, Scan as QuotaScan, Resetpeak as QuotaResetpeak, List as QuotaList}
+use Rattle.fsrm_model.specs.declared.command.ReportsDeed.TheVariants.{Generate as ReportsGenerate, Add as ReportsAdd, Delete as ReportsDelete, Run as ReportsRun, List as ReportsList}
 use Rattle.fsrm_model.specs.declared.command.ScreenDeed.TheVariants.{Add as ScreenAdd, Modify as ScreenModify, Delete as ScreenDelete, List as ScreenList}
 use Rattle.fsrm_model.specs.declared.command.TemplateDeed.TheVariants.{Add as TemplateAdd, Modify as TemplateModify, Delete as TemplateDelete, List as TemplateList}
 use Rattle.fsrm_model.specs.declared.command.Update.TheVariants.{Keep}
-use Rattle.fsrm_model.specs.lines.ValueForms.{Value, path_of, number_of, choice_of, update_of, text_of, texts_of, notice_of, action_of}
-use Rattle.fsrm_model.specs.lines.Options.{Key, path_key, limit_key, quota_type_key, status_key, remove_threshold_key, add_threshold_key, add_notification_key, template_key, source_template_key, update_derived_key, exclude_key, run_limit_key, filegroup_key, members_key, non_members_key, screen_type_key, remove_filegroup_key, add_filegroup_key, screen_notification_key, Given, one, each_of}
+use Rattle.fsrm_model.specs.declared.row.Filter.{Filter}
+use Rattle.fsrm_model.specs.lines.ValueForms.{Value, path_of, number_of, choice_of, update_of, text_of, texts_of, notice_of, action_of, report_of}
+use Rattle.fsrm_model.specs.lines.Options.{Key, path_key, limit_key, quota_type_key, status_key, remove_threshold_key, add_threshold_key, add_notification_key, template_key, source_template_key, update_derived_key, exclude_key, run_limit_key, filegroup_key, members_key, non_members_key, screen_type_key, remove_filegroup_key, add_filegroup_key, screen_notification_key, task_key, report_key, scope_key, schedule_key, owner_key, pattern_key, min_size_key, days_key, min_use_key, max_key, Given, one, each_of}
 
 -- names, each with what it stands for. They are read without regard to the case of ASCII letters
 abbrev pub Names : Type 0 → Type 0
@@ -268,6 +270,59 @@ except_commands =
     (codes "add", except_add) ∷ (codes "delete", of_path (λ path. Exception (ExceptionDelete path)))
     ∷ (codes "list", alone (Exception ExceptionList)) ∷ []
 
+-- ---- reports
+-- a filter has at most 1,000 rows if nothing else is given
+abbrev pub filter_keys : List Key
+filter_keys = owner_key ∷ pattern_key ∷ min_size_key ∷ days_key ∷ min_use_key ∷ max_key ∷ []
+
+abbrev pub filter_given : List Given → Filter
+filter_given given =
+    record {
+      owner = one number_of owner_key given;
+      pattern = one text_of pattern_key given;
+      min_size = one number_of min_size_key given;
+      days = one number_of days_key given;
+      min_use = one number_of min_use_key given;
+      max = unwrap_or (one number_of max_key given) 1000;
+    }
+
+abbrev pub report_generate : ToolCommand
+report_generate =
+    record {
+      keys = report_key ∷ scope_key ∷ filter_keys;
+      deed = λ given.
+          needs report_of report_key given (λ kind.
+          needs path_of scope_key given (λ scope.
+          Some (Reports (ReportsGenerate (record { kind = kind; scope = scope; filter = filter_given given })))));
+    }
+
+abbrev pub job_add : ToolCommand
+job_add =
+    record {
+      keys = task_key ∷ report_key ∷ scope_key ∷ schedule_key ∷ filter_keys;
+      deed = λ given.
+          needs text_of task_key given (λ name.
+          needs report_of report_key given (λ kind.
+          needs path_of scope_key given (λ scope.
+          Some (Reports (ReportsAdd (record {
+            name = name;
+            kind = kind;
+            scope = scope;
+            schedule = one text_of schedule_key given;
+            filter = filter_given given;
+          }))))));
+    }
+
+-- a command that takes the name of a job alone
+abbrev pub of_task : (List ℕ → Deed) → ToolCommand
+of_task deed = record { keys = task_key ∷ []; deed = λ given. needs text_of task_key given (λ name. Some (deed name)) }
+
+abbrev pub report_commands : Names ToolCommand
+report_commands =
+    (codes "generate", report_generate) ∷ (codes "add", job_add)
+    ∷ (codes "delete", of_task (λ name. Reports (ReportsDelete name)))
+    ∷ (codes "run", of_task (λ name. Reports (ReportsRun name))) ∷ (codes "list", alone (Reports ReportsList)) ∷ []
+
 -- what each tool manages, with the commands for it
 abbrev pub dirquota : Names (Names ToolCommand)
 dirquota =
@@ -278,5 +333,8 @@ abbrev pub filescrn : Names (Names ToolCommand)
 filescrn =
     (codes "filegroup", group_commands) ∷ (codes "screen", screen_commands) ∷ (codes "exception", except_commands) ∷ []
 
+abbrev pub storrept : Names (Names ToolCommand)
+storrept = (codes "reports", report_commands) ∷ []
+
 abbrev pub tools : Names (Names (Names ToolCommand))
-tools = (codes "dirquota", dirquota) ∷ (codes "filescrn", filescrn) ∷ []
+tools = (codes "dirquota", dirquota) ∷ (codes "filescrn", filescrn) ∷ (codes "storrept", storrept) ∷ []

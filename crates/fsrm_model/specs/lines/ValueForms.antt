@@ -3,7 +3,9 @@ use Rattle.std.specs.Prelude.{ℕ, ◌==◌, ◌&&◌, Bool, true, false, List, 
 use Rattle.fsrm_model.specs.declared.command.Added.{Added}
 use Rattle.fsrm_model.specs.declared.command.Update.{Update}
 use Rattle.fsrm_model.specs.declared.row.Action.{Action}
+use Rattle.fsrm_model.specs.declared.row.ReportKind.{ReportKind}
 use Rattle.fsrm_model.specs.texts.ActionWords.{action_from, notice_from}
+use Rattle.fsrm_model.specs.texts.ReportWords.{report_from, pattern_from, schedule_from}
 use Rattle.fsrm_model.specs.lines.GroupWords.{object_from, patterns_from, non_members_from}
 use Rattle.fsrm_model.specs.lines.Reading.{Read, ◌>>=◌, number_from, path_from, limit_from, choice_from}
 use Rattle.fsrm_model.specs.lines.TemplateWords.{update_from, name_from}
@@ -15,7 +17,7 @@ pub data ValueForm : Type 0 where
   -- one of two words, in letters of either case
   ChoiceForm : (first second : List ℕ) → ValueForm
   UpdateForm : ValueForm
-  -- the name of a file group or a template, and that of a folder
+  -- the name of a file group, a template or a report job, and that of a folder
   ObjectForm : ValueForm
   NameForm : ValueForm
   -- the patterns of a file group: its members, one at least, and its non-members, of which there may be none
@@ -24,6 +26,10 @@ pub data ValueForm : Type 0 where
   -- a threshold with an action, and an action alone
   NoticeForm : ValueForm
   ActionForm : ValueForm
+  -- what a report is about, one pattern, and the schedule of a job
+  ReportForm : ValueForm
+  PatternForm : ValueForm
+  ScheduleForm : ValueForm
 
 -- a value of some form. Forms share the kinds of values: limits, percentages and minutes are all numbers
 pub data Value : Type 0 where
@@ -35,6 +41,7 @@ pub data Value : Type 0 where
   TextsValue : (texts : List (List ℕ)) → Value
   NoticeValue : (notice : Added) → Value
   ActionValue : (action : Action) → Value
+  ReportValue : (kind : ReportKind) → Value
 
 -- the value that a text is, if it has the form. Its word begins at this column
 abbrev pub value_from : ValueForm → ℕ → List ℕ → Read Value
@@ -50,6 +57,9 @@ value_from MembersForm column text = patterns_from text >>= λ patterns. Ok (Tex
 value_from NonMembersForm column text = non_members_from text >>= λ patterns. Ok (TextsValue patterns)
 value_from NoticeForm column text = notice_from column text >>= λ notice. Ok (NoticeValue notice)
 value_from ActionForm column text = action_from column text >>= λ action. Ok (ActionValue action)
+value_from ReportForm column text = report_from column text >>= λ kind. Ok (ReportValue kind)
+value_from PatternForm column text = pattern_from text >>= λ pattern. Ok (TextValue pattern)
+value_from ScheduleForm column text = schedule_from text >>= λ schedule. Ok (TextValue schedule)
 
 -- what a value is, if it is of this kind
 abbrev pub path_of : Value → Option (List (List ℕ))
@@ -84,6 +94,10 @@ abbrev pub action_of : Value → Option Action
 action_of (ActionValue action) = Some action
 action_of other = None
 
+abbrev pub report_of : Value → Option ReportKind
+report_of (ReportValue kind) = Some kind
+report_of other = None
+
 -- whether two forms are the same
 abbrev pub same_form : ValueForm → ValueForm → Bool
 same_form PathForm PathForm = true
@@ -97,4 +111,7 @@ same_form MembersForm MembersForm = true
 same_form NonMembersForm NonMembersForm = true
 same_form NoticeForm NoticeForm = true
 same_form ActionForm ActionForm = true
+same_form ReportForm ReportForm = true
+same_form PatternForm PatternForm = true
+same_form ScheduleForm ScheduleForm = true
 same_form form other = false

@@ -12,11 +12,13 @@ use Rattle.fsrm_model.specs.declared.command.FileOp.{FileOp}
 use Rattle.fsrm_model.specs.declared.command.FileOp.TheVariants.{Mkdir, Create, Resize, Touch, Move, Remove}
 use Rattle.fsrm_model.specs.declared.row.Action.{Action}
 use Rattle.fsrm_model.specs.texts.ActionWords.{kind_word}
+use Rattle.fsrm_model.specs.texts.ReportWords.{report_word}
 use Rattle.fsrm_model.specs.values.Limits.{latest_moment, longest_file, longest_line, last_owner, most_visits, greatest_percent, most_minutes, most_patterns}
 use Rattle.fsrm_model.specs.values.Name.{is_name}
-use Rattle.fsrm_model.specs.lines.ValueForms.{ValueForm, PathForm, LimitForm, NumberForm, ChoiceForm, UpdateForm, ObjectForm, NameForm, MembersForm, NonMembersForm, NoticeForm, ActionForm, Value, PathValue, NumberValue, ChoiceValue, UpdateValue, TextValue, TextsValue, NoticeValue, ActionValue}
+use Rattle.fsrm_model.specs.lines.ValueForms.{ValueForm, PathForm, LimitForm, NumberForm, ChoiceForm, UpdateForm, ObjectForm, NameForm, MembersForm, NonMembersForm, NoticeForm, ActionForm, ReportForm, PatternForm, ScheduleForm, Value, PathValue, NumberValue, ChoiceValue, UpdateValue, TextValue, TextsValue, NoticeValue, ActionValue, ReportValue}
 use Rattle.fsrm_model.specs.lines.Options.{Times, Once, Repeated, AtMost, Key, Given, times_in, is_colon, key_named}
 use Rattle.fsrm_model.specs.values.Patterns.{is_object_name, is_pattern}
+use Rattle.fsrm_model.specs.objects.Jobs.{is_schedule}
 use Rattle.fsrm_model.specs.objects.Quota.{is_limit}
 use Rattle.fsrm_model.specs.lines.Reading.{is_number, unit_bytes}
 use Rattle.fsrm_model.specs.lines.TemplateWords.{update_word}
@@ -145,6 +147,15 @@ pub record WritesPatterns (least : ℕ) (text : List ℕ) (patterns : List (List
   pub some : least ≤ length patterns
   pub few : length patterns ≤ most_patterns
 
+-- one pattern is written as it is, and so is a schedule
+pub record WritesPattern (text pattern : List ℕ) : Type 0 where
+  pub text_is : text ≡ pattern
+  pub legal : is_pattern pattern ≡ true
+
+pub record WritesSchedule (text schedule : List ℕ) : Type 0 where
+  pub text_is : text ≡ schedule
+  pub legal : is_schedule schedule ≡ true
+
 -- a text writes a value of a form
 abbrev pub WritesValue : ValueForm → List ℕ → Value → Type 0
 WritesValue PathForm text (PathValue path) = WritesPath text path
@@ -158,6 +169,9 @@ WritesValue MembersForm text (TextsValue patterns) = WritesPatterns 1 text patte
 WritesValue NonMembersForm text (TextsValue patterns) = WritesPatterns 0 text patterns
 WritesValue NoticeForm text (NoticeValue notice) = WritesNotice text notice
 WritesValue ActionForm text (ActionValue action) = WritesAction text action
+WritesValue ReportForm text (ReportValue kind) = IsNamed (report_word kind) text
+WritesValue PatternForm text (TextValue pattern) = WritesPattern text pattern
+WritesValue ScheduleForm text (TextValue schedule) = WritesSchedule text schedule
 WritesValue form text other = ⊥
 
 -- a word is the name of an option that a command takes, a colon, and the option's value

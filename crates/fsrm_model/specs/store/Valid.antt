@@ -10,6 +10,7 @@ use Rattle.fsrm_model.specs.declared.row.AutoRow.{AutoRow}
 use Rattle.fsrm_model.specs.declared.row.Capacity.{Capacity}
 use Rattle.fsrm_model.specs.declared.row.ExceptRow.{ExceptRow}
 use Rattle.fsrm_model.specs.declared.row.GroupRow.{GroupRow}
+use Rattle.fsrm_model.specs.declared.row.JobRow.{JobRow}
 use Rattle.fsrm_model.specs.declared.row.NodeRow.{NodeRow}
 use Rattle.fsrm_model.specs.declared.row.QuotaRow.{QuotaRow}
 use Rattle.fsrm_model.specs.declared.row.Rows.{Rows}
@@ -18,9 +19,10 @@ use Rattle.fsrm_model.specs.declared.row.TemplateRow.{TemplateRow}
 use Rattle.fsrm_base.specs.Keyed.{row_of, is_ascending, has_row}
 use Rattle.fsrm_base.specs.Numbers.{each_once}
 use Rattle.fsrm_model.specs.objects.AutoApply.{auto_folder, is_auto}
-use Rattle.fsrm_model.specs.values.Limits.{latest_moment, longest_file, most_actions, most_autos, most_entries, most_excepts, most_groups, most_minutes, most_quotas, most_screen_groups, most_screens, most_templates, most_text_bytes}
+use Rattle.fsrm_model.specs.values.Limits.{latest_moment, longest_file, most_actions, most_autos, most_entries, most_excepts, most_groups, most_jobs, most_minutes, most_quotas, most_screen_groups, most_screens, most_templates, most_text_bytes}
 use Rattle.fsrm_model.specs.values.Name.{is_name, names_differ, same_name}
 use Rattle.fsrm_model.specs.values.Patterns.{group_number, is_group, are_apart}
+use Rattle.fsrm_model.specs.objects.Jobs.{job_number, job_name, is_job}
 use Rattle.fsrm_model.specs.objects.Quota.{folder_of, is_limit}
 use Rattle.fsrm_model.specs.objects.QuotaStates.{head}
 use Rattle.fsrm_model.specs.objects.Screens.{screen_folder, except_folder}
@@ -159,10 +161,18 @@ is_audit entry = is_moment entry.moment && is_name entry.name
 abbrev pub are_audits : List AuditRow → Bool
 are_audits log = nat_le (length log) most_entries && list_all is_audit log
 
--- What no command fills so far is empty: the table of jobs
+-- report jobs, in the order of their numbers, no two with one name. The folder that a job reports on is there
+abbrev pub is_sound_job : List NodeRow → JobRow → Bool
+is_sound_job nodes job = is_folder nodes job.scope && is_job job
+
+abbrev pub are_jobs : List NodeRow → List JobRow → Bool
+are_jobs nodes jobs =
+    (is_ascending job_number jobs && nat_le (length jobs) most_jobs) && (list_all (is_sound_job nodes) jobs && names_differ job_name jobs)
+
+-- the tables of objects but quotas, and the audit log
 abbrev pub are_tables : Rows → Bool
 are_tables R =
-    (list_all (has_source R.templates) R.quotas && (are_templates R.templates && (are_autos R.nodes R.templates R.autos && is_empty R.jobs)))
+    (list_all (has_source R.templates) R.quotas && (are_templates R.templates && (are_autos R.nodes R.templates R.autos && are_jobs R.nodes R.jobs)))
     && ((are_groups R.groups && are_screens R.nodes R.groups R.excepts R.screens)
     && (are_excepts R.nodes R.groups R.excepts && are_audits R.audits))
 
@@ -170,7 +180,7 @@ pub record AreTables (R : Rows) : Type 0 where
   pub sources : list_all (has_source R.templates) R.quotas ≡ true
   pub templates : are_templates R.templates ≡ true
   pub autos : are_autos R.nodes R.templates R.autos ≡ true
-  pub jobs : R.jobs ≡ []
+  pub jobs : are_jobs R.nodes R.jobs ≡ true
   pub groups : are_groups R.groups ≡ true
   pub screens : are_screens R.nodes R.groups R.excepts R.screens ≡ true
   pub excepts : are_excepts R.nodes R.groups R.excepts ≡ true

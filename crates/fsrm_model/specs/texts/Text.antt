@@ -7,12 +7,14 @@ use Rattle.fsrm_model.specs.declared.row.QuotaState.{QuotaState}
 use Rattle.fsrm_model.specs.declared.row.QuotaState.TheVariants.{Complete, Disabled, Rebuilding, Incomplete}
 use Rattle.fsrm_model.specs.declared.row.Rows.{Rows}
 use Rattle.fsrm_model.specs.declared.command.Ask.{Ask}
-use Rattle.fsrm_model.specs.declared.command.Ask.TheVariants.{Quotas, Templates, Autos, Groups, Screens, Excepts, Settings, Acts}
+use Rattle.fsrm_model.specs.declared.command.Ask.TheVariants.{Quotas, Templates, Autos, Groups, Screens, Excepts, Jobs, Settings, Acts}
 use Rattle.fsrm_model.specs.declared.command.Refusal.{Refusal}
 use Rattle.fsrm_model.specs.declared.command.Refusal.TheVariants.{BadLine, LineTooLong, InvalidPath, InvalidName, OutOfRange, InvalidLimit, ClockBack, PathNotFound, NotFound, AlreadyExists, DuplicateName, InUse, InvalidCombination, NotEmpty, InvalidMove, NothingToScan, VolumeFull, NamesFull, TableFull, TextsFull, ScreenBlocked, QuotaExceeded}
 use Rattle.fsrm_model.specs.declared.command.Outcome.{Outcome}
-use Rattle.fsrm_model.specs.declared.command.Outcome.TheVariants.{Done, Sum, Listing, Scanned, Refused}
+use Rattle.fsrm_model.specs.declared.command.Outcome.TheVariants.{Done, Sum, Listing, Report, Scanned, Refused}
 use Rattle.fsrm_model.specs.texts.ActText.{threshold_lines, log_lines}
+use Rattle.fsrm_model.specs.texts.ReportText.{report_lines}
+use Rattle.fsrm_model.specs.texts.ReportWords.{job_lines}
 use Rattle.fsrm_model.specs.texts.ScreenText.{group_lines, screen_lines, except_lines}
 use Rattle.fsrm_model.specs.texts.SettingsText.{settings_lines}
 use Rattle.fsrm_model.specs.texts.TemplateText.{template_lines, auto_lines}
@@ -63,6 +65,7 @@ abbrev pub head_words : List NodeRow → Outcome → List (List ℕ)
 head_words nodes (Done passive) = codes "ok" ∷ []
 head_words nodes (Sum node bytes) = codes "ok" ∷ []
 head_words nodes (Listing ask) = codes "ok" ∷ []
+head_words nodes (Report ask) = codes "ok" ∷ []
 head_words nodes (Scanned folder visited used) =
     codes "ok" ∷ codes "visited" ∷ decimal visited ∷ codes "of" ∷ path_text nodes folder ∷ done_words used
 head_words nodes (Refused refusal) = codes "refused" ∷ refusal_words nodes refusal
@@ -107,22 +110,25 @@ list_lines K R Autos = flat_map (auto_lines R.nodes R.templates) R.autos
 list_lines K R Groups = flat_map group_lines R.groups
 list_lines K R Screens = flat_map (screen_lines R.nodes R.groups) R.screens
 list_lines K R Excepts = flat_map (except_lines R.nodes R.groups) R.excepts
+list_lines K R Jobs = flat_map (job_lines R.nodes) R.jobs
 list_lines K R Settings = settings_lines K R
 list_lines K R Acts = log_lines R.acts
 
--- whether the reply shows the rows of a report, which are handed to its writer as a table. So far no command makes one
+-- whether the reply shows the rows of a report, which are handed to its writer as a table
 abbrev pub is_report : Outcome → Bool
 is_report (Done passive) = false
 is_report (Sum node bytes) = false
 is_report (Listing ask) = false
+is_report (Report ask) = true
 is_report (Scanned folder visited used) = false
 is_report (Refused refusal) = false
 
--- the lines below the first, for a command of this moment. So far no line depends on the moment
+-- the lines below the first, for a command of this moment, on which the rows of some reports depend
 abbrev pub body : Capacity → Rows → ℕ → Outcome → List ℕ
 body K R moment (Done passive) = passive_line R.nodes passive
 body K R moment (Sum node bytes) = body_line (decimal bytes ∷ path_text R.nodes node ∷ [])
 body K R moment (Listing ask) = list_lines K R ask
+body K R moment (Report ask) = report_lines K R ask moment
 body K R moment (Scanned folder visited used) = []
 body K R moment (Refused refusal) = []
 

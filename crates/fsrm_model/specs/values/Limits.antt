@@ -107,3 +107,20 @@ most_entries = 1024
 -- the greatest run limit of actions, in minutes
 abbrev pub most_minutes : ℕ
 most_minutes = 525600
+
+-- how many report jobs there may be, and the bytes of the longest schedule of one
+abbrev pub most_jobs : ℕ
+most_jobs = 256
+
+abbrev pub longest_schedule : ℕ
+longest_schedule = 200
+
+-- what a report may be asked for: the most days that it looks back, the greatest percentage of a limit, and the most rows
+abbrev pub most_days : ℕ
+most_days = 36500
+
+abbrev pub most_use : ℕ
+most_use = 1000
+
+abbrev pub most_rows : ℕ
+most_rows = 100000

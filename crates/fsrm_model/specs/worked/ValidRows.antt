@@ -8,17 +8,21 @@ use Rattle.fsrm_model.specs.declared.row.AuditRow.{AuditRow}
 use Rattle.fsrm_model.specs.declared.row.AutoRow.{AutoRow}
 use Rattle.fsrm_model.specs.declared.row.ExceptRow.{ExceptRow}
 use Rattle.fsrm_model.specs.declared.row.GroupRow.{GroupRow}
+use Rattle.fsrm_model.specs.declared.row.Filter.{Filter}
+use Rattle.fsrm_model.specs.declared.row.JobRow.{JobRow}
 use Rattle.fsrm_model.specs.declared.row.NodeRow.{NodeRow}
 use Rattle.fsrm_model.specs.declared.row.QuotaRow.{QuotaRow}
 use Rattle.fsrm_model.specs.declared.row.QuotaState.{QuotaState}
 use Rattle.fsrm_model.specs.declared.row.QuotaState.TheVariants.{Complete, Rebuilding}
+use Rattle.fsrm_model.specs.declared.row.ReportKind.TheVariants.{QuotaUsage}
 use Rattle.fsrm_model.specs.declared.row.Rows.{Rows}
 use Rattle.fsrm_model.specs.declared.row.ScreenRow.{ScreenRow}
 use Rattle.fsrm_model.specs.declared.row.TemplateRow.{TemplateRow}
 use Rattle.fsrm_model.specs.declared.row.Threshold.{Threshold}
 use Rattle.fsrm_model.specs.nodes.Fresh.{default_capacity, new_rows, root_node, rows_of_nodes}
-use Rattle.fsrm_model.specs.values.Limits.{latest_moment, longest_action_text, most_entries, most_excluded, most_minutes, most_templates}
+use Rattle.fsrm_model.specs.values.Limits.{last_owner, latest_moment, longest_action_text, longest_file, longest_schedule, most_days, most_entries, most_excluded, most_jobs, most_minutes, most_rows, most_templates, most_use}
 use Rattle.fsrm_model.specs.commands.QuotaWork.{new_quota}
+use Rattle.fsrm_model.specs.commands.ReportWork.{no_filter}
 use Rattle.fsrm_model.specs.store.Valid.{is_valid}
 
 -- in the root a folder, in it a file and a folder, and in that another folder
@@ -255,6 +259,72 @@ autos_wrong =
 
 abbrev pub wrong_templates : Type 0
 wrong_templates = are_valid (templates_wrong ++ autos_wrong) ≡ replicate 12 false
+
+-- ---- report jobs
+abbrev pub job : ℕ → List ℕ → ℕ → JobRow
+job number name scope =
+    record {
+      number = number;
+      name = name;
+      kind = QuotaUsage;
+      scope = scope;
+      filter = no_filter;
+      schedule = codes "daily 02:00 1";
+      made = latest_moment;
+      last_run = Some latest_moment;
+    }
+
+abbrev pub reporting : List JobRow → Rows
+reporting jobs = record scanning { jobs = jobs }
+
+-- a filter with the greatest values
+abbrev pub most_asked : Filter
+most_asked =
+    record {
+      owner = Some last_owner;
+      pattern = Some (codes "*");
+      min_size = Some longest_file;
+      days = Some most_days;
+      min_use = Some most_use;
+      max = most_rows;
+    }
+
+-- these are valid: two jobs may report on one folder, a schedule may be empty or have 200 bytes, and a job may never have run
+abbrev pub valid_jobs : Type 0
+valid_jobs =
+    are_valid (map reporting (
+    (job 0 (codes "j") 0 ∷ job 255 (codes "k") 0 ∷ [])
+    ∷ (record (job 1 (codes "j") 4) { filter = most_asked; schedule = []; last_run = None } ∷ [])
+    ∷ (record (job 1 (codes "j") 4) { schedule = replicate longest_schedule 32 } ∷ [])
+    ∷ []))
+    ≡ true ∷ true ∷ true ∷ []
+
+-- in each of these one thing is wrong: a number is too great, numbers descend, a number or a name is another's, a name has a bar, a
+-- scope is a file or isn't there, a filter has no row, or one too many, or another value that is too great, a pattern has a `/`, a
+-- schedule has a control character or is too long, a job was made or ran too late
+abbrev pub wrong_jobs : Type 0
+wrong_jobs =
+    are_valid (map reporting (
+    (job most_jobs (codes "j") 0 ∷ [])
+    ∷ (job 1 (codes "j") 0 ∷ job 0 (codes "k") 0 ∷ [])
+    ∷ (job 0 (codes "j") 0 ∷ job 0 (codes "k") 0 ∷ [])
+    ∷ (job 0 (codes "j") 0 ∷ job 1 (codes "J") 1 ∷ [])
+    ∷ (job 0 (codes "j|") 0 ∷ [])
+    ∷ (job 0 (codes "j") 2 ∷ [])
+    ∷ (job 0 (codes "j") 5 ∷ [])
+    ∷ (record (job 0 (codes "j") 0) { filter = record no_filter { max = 0 } } ∷ [])
+    ∷ (record (job 0 (codes "j") 0) { filter = record no_filter { max = most_rows + 1 } } ∷ [])
+    ∷ (record (job 0 (codes "j") 0) { filter = record no_filter { owner = Some 0 } } ∷ [])
+    ∷ (record (job 0 (codes "j") 0) { filter = record no_filter { min_size = Some (longest_file + 1) } } ∷ [])
+    ∷ (record (job 0 (codes "j") 0) { filter = record no_filter { days = Some (most_days + 1) } } ∷ [])
+    ∷ (record (job 0 (codes "j") 0) { filter = record no_filter { min_use = Some (most_use + 1) } } ∷ [])
+    ∷ (record (job 0 (codes "j") 0) { filter = record no_filter { pattern = Some (codes "a/b") } } ∷ [])
+    ∷ (record (job 0 (codes "j") 0) { schedule = 31 ∷ [] } ∷ [])
+    ∷ (record (job 0 (codes "j") 0) { schedule = replicate (longest_schedule + 1) 32 } ∷ [])
+    ∷ (record (job 0 (codes "j") 0) { made = latest_moment + 1 } ∷ [])
+    ∷ (record (job 0 (codes "j") 0) { last_run = Some (latest_moment + 1) } ∷ [])
+    ∷ []))
+    ≡ replicate 18 false
 
 -- with a log, the run limit or the last moment
 abbrev pub wrong_tables : Type 0

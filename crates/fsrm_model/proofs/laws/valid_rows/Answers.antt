@@ -54,3 +54,11 @@ returns-clause-templates c = refl
 pub returns-clause-wrong_templates : goal.returns-clause-wrong_templates
 unfolding simple_folding simple_folding_rows value_in chars is_utf8 utf8_valid_len lib.Utf8.encode
 returns-clause-wrong_templates c = refl
+
+pub returns-clause-jobs : goal.returns-clause-jobs
+unfolding simple_folding simple_folding_rows value_in chars is_utf8 utf8_valid_len lib.Utf8.encode
+returns-clause-jobs c = refl
+
+pub returns-clause-wrong_jobs : goal.returns-clause-wrong_jobs
+unfolding simple_folding simple_folding_rows value_in chars is_utf8 utf8_valid_len lib.Utf8.encode
+returns-clause-wrong_jobs c = refl

@@ -1,0 +1,4 @@
+pub mod Filters
+pub mod Files
+pub mod Groups
+pub mod Reports
