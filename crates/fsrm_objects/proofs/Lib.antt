@@ -2,3 +2,4 @@ pub mod QuotaRows
 pub mod FaultLaws
 pub mod RunRows
 pub mod ScreenRows
+pub mod JobRows

@@ -1,32 +1,35 @@
 -- The tables of objects, and why a row is refused.
-use Rattle.std.specs.Prelude.{◌≡◌, ℕ, zero, suc, ◌+◌, ◌<◌, ◌==◌, ◌||◌, nat_lt, nat_le, Bool, true, List, [], ◌∷◌, length, sum_by, Option, Some, None}
+use Rattle.std.specs.Prelude.{◌≡◌, ℕ, zero, suc, ◌+◌, ◌<◌, ◌==◌, ◌||◌, nat_lt, nat_le, Bool, true, List, [], ◌∷◌, length, filter, sum_by, Option, Some, None, is_some}
 use Rattle.std.specs.List.{list_all}
 use Rattle.std.specs.Option.{option_map_or}
 use Rattle.fsrm_base.specs.Causes.{◌when◌, first}
-use Rattle.fsrm_base.specs.Keyed.{has_row, row_of, is_ascending, with_row, with_change, without_row}
+use Rattle.fsrm_base.specs.Keyed.{has_row, least_free, row_of, is_ascending, with_row, with_change, without_row}
 use Rattle.fsrm_model.specs.declared.row.Action.{Action}
 use Rattle.fsrm_model.specs.declared.row.ExceptRow.{ExceptRow}
+use Rattle.fsrm_model.specs.declared.row.JobRow.{JobRow}
 use Rattle.fsrm_model.specs.declared.row.QuotaRow.{QuotaRow}
 use Rattle.fsrm_model.specs.declared.row.QuotaState.{QuotaState}
 use Rattle.fsrm_model.specs.declared.row.ScreenRow.{ScreenRow}
 use Rattle.fsrm_model.specs.declared.row.Threshold.{Threshold}
-use Rattle.fsrm_model.specs.values.Limits.{most_quotas, most_screens, most_excepts, most_screen_groups, most_actions, longest_action_text}
+use Rattle.fsrm_model.specs.values.Limits.{most_quotas, most_screens, most_excepts, most_jobs, most_screen_groups, most_actions, longest_action_text}
+use Rattle.fsrm_model.specs.objects.Jobs.{is_elsewhere, job_named, job_number, run_job}
 use Rattle.fsrm_model.specs.objects.Quota.{folder_of}
 use Rattle.fsrm_model.specs.objects.QuotaStates.{in_state}
 use Rattle.fsrm_model.specs.objects.Screens.{screen_folder, except_folder}
-use Rattle.fsrm_model.specs.values.Texts.{action_bytes, quota_bytes}
+use Rattle.fsrm_model.specs.values.Texts.{action_bytes, job_bytes, quota_bytes}
 use Rattle.fsrm_model.specs.objects.Thresholds.{percent_of, actions_at, are_too_many}
 use Rattle.fsrm_objects.specs.declared.answer.ObjectFault.{ObjectFault}
-use Rattle.fsrm_objects.specs.declared.answer.ObjectFault.TheVariants.{AlreadyExists, InvalidCombination, OutOfRange, TableFull, TextsFull, NoMemory}
+use Rattle.fsrm_objects.specs.declared.answer.ObjectFault.TheVariants.{AlreadyExists, InvalidCombination, DuplicateName, OutOfRange, TableFull, TextsFull, NoMemory}
 
 -- the rows of each table, and for how many quotas there is memory in any case
 pub record Tables : Type 0 where
   pub quotas : List QuotaRow
   pub screens : List ScreenRow
   pub excepts : List ExceptRow
+  pub jobs : List JobRow
   pub room : ℕ
 
--- the bytes of the texts that quotas and screens hold, and of those of all tables
+-- the bytes of the texts that quotas, screens and report jobs hold, and of those of all tables
 abbrev pub quota_texts : List QuotaRow → ℕ
 quota_texts quotas = sum_by quota_bytes quotas
 
@@ -36,14 +39,18 @@ screen_bytes screen = action_bytes screen.actions
 abbrev pub screen_texts : List ScreenRow → ℕ
 screen_texts screens = sum_by screen_bytes screens
 
+abbrev pub job_texts : List JobRow → ℕ
+job_texts jobs = sum_by job_bytes jobs
+
 abbrev pub texts_in : Tables → ℕ
-texts_in tables = quota_texts tables.quotas + screen_texts tables.screens
+texts_in tables = quota_texts tables.quotas + screen_texts tables.screens + job_texts tables.jobs
 
 -- ---- refusals
 -- a fault is the one that is due; it is for want of memory only if none is due
 abbrev pub IsFault : ObjectFault → Option ObjectFault → Type 0
 IsFault AlreadyExists due = due ≡ Some AlreadyExists
 IsFault InvalidCombination due = due ≡ Some InvalidCombination
+IsFault DuplicateName due = due ≡ Some DuplicateName
 IsFault OutOfRange due = due ≡ Some OutOfRange
 IsFault TableFull due = due ≡ Some TableFull
 IsFault TextsFull due = due ≡ Some TextsFull
@@ -182,3 +189,28 @@ pub record HasScreenAction (tables : Tables) (folder place : ℕ) : Type 0 where
   pub screen : ScreenRow
   pub is_there : row_of screen_folder folder tables.screens ≡ Some screen
   pub within : place < length screen.actions
+
+-- ---- report jobs
+-- why a job can't be added, if so many bytes of texts may still come
+abbrev pub job_fault : Tables → JobRow → ℕ → Option ObjectFault
+job_fault tables row room =
+    first ((DuplicateName when is_some (job_named tables.jobs row.name))
+    ∷ (TableFull when nat_le most_jobs (length tables.jobs))
+    ∷ (TextsFull when nat_lt room (job_bytes row)) ∷ [])
+
+-- a job under the number that it gets
+abbrev pub numbered : List JobRow → JobRow → JobRow
+numbered jobs row = record row { number = least_free job_number jobs }
+
+-- tables with one more job, with a run of one at a moment, without that of a number, and without those that report on a folder
+abbrev pub with_job : Tables → JobRow → Tables
+with_job tables row = record tables { jobs = with_row job_number row tables.jobs }
+
+abbrev pub with_job_run : Tables → ℕ → ℕ → Tables
+with_job_run tables number moment = record tables { jobs = with_change job_number number (run_job moment) tables.jobs }
+
+abbrev pub without_job : Tables → ℕ → Tables
+without_job tables number = record tables { jobs = without_row job_number number tables.jobs }
+
+abbrev pub without_jobs : Tables → ℕ → Tables
+without_jobs tables folder = record tables { jobs = filter (is_elsewhere folder) tables.jobs }

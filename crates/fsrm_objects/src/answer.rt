@@ -12,6 +12,8 @@ pub enum ObjectFault {
     AlreadyExists,
     /// A screen meets an exception on one folder, or has no file group, or an exception has none.
     InvalidCombination,
+    /// There is a report job of this name, in some spelling.
+    DuplicateName,
     /// A list of the row is too long: a quota has at most 16 thresholds, a threshold or a screen at most 8 actions, a
     /// screen or an exception at most 16 file groups.
     OutOfRange,

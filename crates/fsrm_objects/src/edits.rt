@@ -1,7 +1,7 @@
 //! Changes of rows where they stand.
 
 use crate::runs::{note_last, note_run};
-use fsrm_model::{QuotaRow, QuotaState, ScreenRow};
+use fsrm_model::{JobRow, QuotaRow, QuotaState, ScreenRow};
 use row_table::Edit;
 
 /// Another peak of a quota, in bytes, and its moment.
@@ -120,5 +120,27 @@ impl Edit<ScreenRow> for ScreenRun {
 
     fn edit(&self, row: &mut ScreenRow) {
         note_last(&mut row.actions, self.place, self.moment);
+    }
+}
+
+/// A run of a report job at a moment.
+#[derive(Clone, Copy)]
+pub(crate) struct JobRun {
+    pub moment: u64,
+}
+
+impl Edit<JobRow> for JobRun {
+    type Told = ();
+
+    ghost use Rattle.fsrm_model.specs.objects.Jobs.{run_job};
+
+    ghost may = { λ run job. Unit {0} };
+
+    ghost edited = { λ run job. run_job run.moment job };
+
+    ghost told = { λ run job. tt };
+
+    fn edit(&self, row: &mut JobRow) {
+        row.last_run = Some(self.moment);
     }
 }

@@ -1,10 +1,11 @@
-//! The kinds of rows: quotas, screens and exceptions, each by its folder.
+//! The kinds of rows: quotas, screens and exceptions, each by its folder, and report jobs by their numbers.
 
-use crate::texts::{texts_of_actions, threshold_texts};
+use crate::texts::{job_texts, texts_of_actions, threshold_texts};
 use fsrm_base::places::Key;
-use fsrm_model::limits::{MOST_EXCEPTS, MOST_QUOTAS, MOST_SCREENS};
-use fsrm_model::{ExceptRow, QuotaRow, ScreenRow};
-use row_table::Kind;
+use fsrm_model::limits::{MOST_EXCEPTS, MOST_JOBS, MOST_QUOTAS, MOST_SCREENS};
+use fsrm_model::{ExceptRow, JobRow, QuotaRow, ScreenRow};
+use name_rules::same_name;
+use row_table::{Kind, Test};
 
 /// Quotas, with the texts of their actions.
 pub(crate) struct Quotas;
@@ -116,4 +117,75 @@ impl Kind for Excepts {
     ghost few = { Prim.search rules };
 
     ghost fits = { Prim.search rules };
+}
+
+/// Report jobs by their numbers, with their names, their schedules and the patterns of their filters.
+pub(crate) struct Jobs;
+
+impl Key for Jobs {
+    ghost use Rattle.fsrm_model.specs.objects.Jobs.{job_number};
+
+    type Row = JobRow;
+
+    ghost key = { job_number };
+
+    fn number(row: &JobRow) -> u32 {
+        row.number
+    }
+}
+
+impl Kind for Jobs {
+    ghost use Rattle.std.proofs.Common.{rules};
+    ghost use Rattle.fsrm_model.specs.values.Limits.{most_jobs};
+    ghost use Rattle.fsrm_model.specs.values.Texts.{job_bytes};
+    ghost use Rattle.fsrm_objects.specs.Kept.{most_job_bytes};
+
+    ghost bytes = { job_bytes };
+
+    ghost most_bytes = { most_job_bytes };
+
+    ghost MOST = { most_jobs };
+
+    const MOST: u32 = MOST_JOBS as u32;
+
+    fn texts(row: &JobRow) -> u32 {
+        job_texts(row)
+    }
+
+    ghost few = { Prim.search rules };
+
+    ghost fits = { Prim.search rules };
+}
+
+/// Whether a report job has a name, in any spelling.
+#[derive(Clone, Copy)]
+pub(crate) struct Named<'a> {
+    pub name: &'a str,
+}
+
+impl<'a> Test<JobRow> for Named<'a> {
+    ghost use Rattle.fsrm_model.specs.objects.Jobs.{job_name};
+    ghost use Rattle.fsrm_model.specs.values.Name.{is_named};
+
+    ghost passes = { λ it row. is_named job_name it.name.now row };
+
+    fn test(&self, row: &JobRow) -> bool {
+        same_name(row.name.as_str(), self.name)
+    }
+}
+
+/// Whether a report job reports on a folder.
+#[derive(Clone, Copy)]
+pub(crate) struct Reports {
+    pub folder: u32,
+}
+
+impl Test<JobRow> for Reports {
+    ghost use Rattle.std.specs.Prelude.{◌==◌};
+
+    ghost passes = { λ it row. row.scope == it.folder };
+
+    fn test(&self, row: &JobRow) -> bool {
+        row.scope == self.folder
+    }
 }

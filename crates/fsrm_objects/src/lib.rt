@@ -1,5 +1,6 @@
 //! The tables of a store's objects: its quotas (MS-FSRM, IFsrmQuota), its file screens (IFsrmFileScreen) and their
-//! exceptions (IFsrmFileScreenException), each ascending by their folders.
+//! exceptions (IFsrmFileScreenException), each ascending by their folders, and its report jobs (IFsrmReportJob),
+//! ascending by their numbers.
 //!
 //! Each call leaves exactly the rows that the definitions give. It refuses exactly for the first cause that holds,
 //! in the order of `ObjectFault`, and then the tables are as they were. NoMemory comes only if nothing else refuses.
@@ -8,6 +9,7 @@
 mod answer;
 mod edits;
 mod excepts;
+mod jobs;
 mod kinds;
 mod objects;
 mod percents;

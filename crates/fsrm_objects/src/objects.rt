@@ -13,15 +13,15 @@ ghost use Rattle.fsrm_objects.specs.Tables.{IsFault, has_short_texts, HasAction,
 
 use crate::answer::ObjectFault;
 use crate::edits::{Peak, QuotaRun, Source, State};
-use crate::kinds::{Excepts, Quotas, Screens};
+use crate::kinds::{Excepts, Jobs, Quotas, Screens};
 use crate::texts::{are_too_many, left_of_thresholds, threshold_texts};
 use fsrm_model::{NoMemory, QuotaRow, QuotaState};
 use row_table::{Kind, Table};
 use std::alloc::Global;
 use std::marker::Model;
 
-/// The objects of a store. Contracts see the rows of each table, ascending by folder, each folder at most once, and for
-/// how many quotas there is memory in any case: none, or after `make_room` all.
+/// The objects of a store. Contracts see the rows of each table, ascending by folder, each folder at most once, or jobs by
+/// number, and for how many quotas there is memory in any case: none, or after `make_room` all.
 #[derive(Drop)]
 pub struct Objects {
     quotas: Table<Quotas>,
@@ -30,6 +30,7 @@ pub struct Objects {
     room: u32,
     pub(crate) screens: Table<Screens>,
     pub(crate) excepts: Table<Excepts>,
+    pub(crate) jobs: Table<Jobs>,
 }
 
 impl Model for Objects {
@@ -38,7 +39,7 @@ impl Model for Objects {
 
     ghost Value = { Tables };
 
-    ghost view = { λ o. record { quotas = o.quotas.rows; screens = o.screens.rows; excepts = o.excepts.rows; room = o.room } };
+    ghost view = { λ o. record { quotas = o.quotas.rows; screens = o.screens.rows; excepts = o.excepts.rows; jobs = o.jobs.rows; room = o.room } };
 
     ghost invariant = { λ o. o.room ≤ o.quotas.room };
 }
@@ -46,13 +47,14 @@ impl Model for Objects {
 impl Objects {
     /// Tables without rows. It takes no memory.
     pub fn new(alloc: Global) -> Objects
-        ensures { result ≡ record { quotas = []; screens = []; excepts = []; room = 0 } }
+        ensures { result ≡ record { quotas = []; screens = []; excepts = []; jobs = []; room = 0 } }
     {
         Objects {
             quotas: Table::new(alloc),
             room: 0,
             screens: Table::new(alloc),
             excepts: Table::new(alloc),
+            jobs: Table::new(alloc),
         }
     }
 
@@ -235,7 +237,7 @@ impl Objects {
     pub fn texts(&self) -> u32
         ensures { result ≡ texts_in self.now }
     {
-        self.quotas.texts() + self.screens.texts()
+        self.quotas.texts() + self.screens.texts() + self.jobs.texts()
     }
 
     /// How many quotas there are, at most 4,096. `kept` says that they ascend by folder, and how long the texts of each

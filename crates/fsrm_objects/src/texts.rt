@@ -1,14 +1,15 @@
 //! How long the lists and the texts of a row are.
 
-ghost use Rattle.std.specs.Prelude.{◌≡◌, ◌+◌, ◌<◌, ◌^◌, MatchOption};
+ghost use Rattle.std.specs.Prelude.{◌≡◌, ◌+◌, ◌<◌, ◌^◌, length, MatchOption};
 ghost use Rattle.std.specs.List.{list_any};
-ghost use Rattle.fsrm_model.specs.values.Texts.{action_bytes, threshold_bytes};
+ghost use Rattle.std.specs.Option.{option_map_or};
+ghost use Rattle.fsrm_model.specs.values.Texts.{action_bytes, job_bytes, threshold_bytes};
 ghost use Rattle.fsrm_model.specs.objects.Thresholds.{are_too_many, is_crowded};
 ghost use Rattle.fsrm_objects.specs.Tables.{is_long_screen};
 
 use fsrm_base::room::left_of_text;
 use fsrm_model::limits::{MOST_ACTIONS, MOST_SCREEN_GROUPS, MOST_THRESHOLDS};
-use fsrm_model::{Action, List, ScreenRow, Threshold};
+use fsrm_model::{Action, Filter, JobRow, List, ScreenRow, Threshold};
 
 /// Whether there are more thresholds than a quota or a template may have, or one of them has more actions than it may.
 pub fn are_too_many(thresholds: &List<Threshold>) -> bool
@@ -73,4 +74,23 @@ pub fn left_of_actions(actions: &List<Action>, room: u64) -> Option<u64>
         left = left_of_text(action.text.as_str(), left)?;
     }
     Some(left)
+}
+
+/// The bytes of the texts of a report job, which fit: its name, its schedule, and the pattern of its filter.
+pub fn job_texts(job: &JobRow) -> u32
+    requires { job_bytes job.now < 2 ^ 32 }
+    ensures { result ≡ job_bytes job.now }
+{
+    job.name.as_str().len() as u32 + job.schedule.as_str().len() as u32 + pattern_texts(&job.filter)
+}
+
+// The bytes of a filter's pattern, which fit. None are there if it has none.
+fn pattern_texts(filter: &Filter) -> u32
+    requires { option_map_or (λ pattern. length pattern) filter.now.pattern 0 < 2 ^ 32 }
+    ensures { result ≡ option_map_or (λ pattern. length pattern) filter.now.pattern 0 }
+{
+    match &filter.pattern {
+        Some(pattern) => pattern.as_str().len() as u32,
+        None => 0,
+    }
 }
