@@ -6,6 +6,7 @@ ghost use Rattle.fsrm_model.specs.nodes.Tree.{number};
 ghost use Rattle.row_rules.specs.Kept.{are_kept, are_kept_quotas, are_kept_screens, is_kept_rest};
 
 use crate::actions::is_moment;
+use crate::jobs::are_numbered_jobs;
 use crate::logs::{are_audits, are_entries};
 use crate::objects::{
     are_autos, are_numbered_templates, are_quotas, have_sources, none_rebuilding,
@@ -50,10 +51,12 @@ fn are_kept_screens(rows: &Rows) -> bool
 }
 
 fn is_kept_rest(rows: &Rows) -> bool
+    requires { is_ascending number rows.now.nodes ≡ true }
     ensures { result ≡ is_kept_rest rows.now }
 {
     let logs = are_entries(rows.acts.as_slice()) && are_audits(rows.audits.as_slice());
     let settings = rows.run_limit <= MOST_MINUTES && is_moment(rows.last_moment);
-    let idle = rows.jobs.is_empty() && rows.queue.is_empty() && rows.unvisited.is_empty();
-    logs && settings && idle
+    let jobs = are_numbered_jobs(rows.nodes.as_slice(), rows.jobs.as_slice());
+    let idle = rows.queue.is_empty() && rows.unvisited.is_empty();
+    logs && settings && jobs && idle
 }

@@ -6,7 +6,7 @@ ghost use Rattle.fsrm_model.specs.nodes.Tree.{is_folder, number as node_number};
 
 use fsrm_base::places::{Key, search};
 use fsrm_model::{
-    AutoRow, ExceptRow, GroupRow, NodeRow, QuotaRow, ScreenRow, TemplateRow, Threshold,
+    AutoRow, ExceptRow, GroupRow, JobRow, NodeRow, QuotaRow, ScreenRow, TemplateRow, Threshold,
 };
 
 /// Whether numbers ascend, each at most once.
@@ -152,5 +152,20 @@ impl Key for Excepts {
 
     fn number(row: &ExceptRow) -> u32 {
         row.folder
+    }
+}
+
+/// Report jobs by their numbers.
+pub struct Jobs;
+
+impl Key for Jobs {
+    ghost use Rattle.fsrm_model.specs.objects.Jobs.{job_number};
+
+    type Row = JobRow;
+
+    ghost key = { job_number };
+
+    fn number(row: &JobRow) -> u32 {
+        row.number
     }
 }

@@ -5,6 +5,7 @@
 #![tactic(auto)]
 
 mod actions;
+mod jobs;
 mod kept;
 mod keys;
 mod logs;

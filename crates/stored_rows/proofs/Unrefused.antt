@@ -1,33 +1,41 @@
 -- Of good rows that come in their order none is refused.
-use Rattle.std.proofs.Common.{◌≡◌, ℕ, ◌≤◌, ◌&&◌, ◌==◌, nat_lt, nat_le, not, true, false, List, [], length, take, sum_by, Option, None, refl, ap, ◌∙◌, arith}
-use Rattle.std.specs.List.{list_all}
+use Rattle.std.proofs.Common.{◌≡◌, ℕ, ◌≤◌, ◌+◌, ◌<◌, Bool, ◌&&◌, ◌==◌, nat_lt, nat_le, not, true, false, List, [], ◌∷◌, length, take, sum_by, Option, Some, None, refl, ap, sym, ◌∙◌, arith}
+use Rattle.std.specs.List.{list_all, list_any}
+use Rattle.std.specs.Option.{option_map_or}
+use Rattle.std.specs.Prelude.{is_some}
+use Rattle.fsrm_base.specs.Causes.{◌when◌, first}
 use Rattle.fsrm_base.specs.Keyed.{has_row}
+use Rattle.fsrm_base.proofs.Look.{is_some-find}
 use Rattle.fsrm_base.proofs.TestLaws.{both, eq_above, is_false, le_is, lt_is, nor, not_lt}
 use Rattle.fsrm_model.specs.declared.row.Action.{Action}
 use Rattle.fsrm_model.specs.declared.row.AutoRow.{AutoRow}
 use Rattle.fsrm_model.specs.declared.row.ExceptRow.{ExceptRow}
 use Rattle.fsrm_model.specs.declared.row.GroupRow.{GroupRow}
+use Rattle.fsrm_model.specs.declared.row.JobRow.{JobRow}
 use Rattle.fsrm_model.specs.declared.row.QuotaRow.{QuotaRow}
 use Rattle.fsrm_model.specs.declared.row.ScreenRow.{ScreenRow}
 use Rattle.fsrm_model.specs.declared.row.TemplateRow.{TemplateRow}
 use Rattle.fsrm_model.specs.objects.AutoApply.{auto_folder}
+use Rattle.fsrm_model.specs.objects.Jobs.{is_job, is_schedule, job_name, job_named, job_number}
 use Rattle.fsrm_model.specs.objects.Quota.{folder_of}
 use Rattle.fsrm_model.specs.objects.Screens.{except_folder, screen_folder}
 use Rattle.fsrm_model.specs.objects.Templates.{is_template, template_name, template_number}
 use Rattle.fsrm_model.specs.objects.Thresholds.{are_minutes, are_thresholds, is_action, is_action_text, is_kept_action, is_printing}
 use Rattle.fsrm_model.specs.store.Valid.{are_screen_actions}
-use Rattle.fsrm_model.specs.values.Limits.{longest_action_text, most_actions, most_autos, most_excepts, most_groups, most_quotas, most_screen_groups, most_screens, most_templates, most_text_bytes}
-use Rattle.fsrm_model.specs.values.Name.{names_differ}
-use Rattle.fsrm_model.specs.values.Patterns.{are_apart, group_name, group_number, is_group}
-use Rattle.fsrm_model.specs.values.Texts.{auto_bytes, group_bytes, quota_bytes, template_bytes}
+use Rattle.fsrm_model.specs.values.Limits.{latest_moment, longest_action_text, longest_name, longest_schedule, most_actions, most_autos, most_excepts, most_groups, most_jobs, most_quotas, most_screen_groups, most_screens, most_templates, most_text_bytes}
+use Rattle.fsrm_model.specs.reports.Filters.{is_filter, is_length, is_owner}
+use Rattle.fsrm_model.specs.values.Name.{is_named, names_differ}
+use Rattle.fsrm_model.specs.values.Patterns.{are_apart, group_name, group_number, is_group, is_object_byte, is_object_name, is_pattern}
+use Rattle.fsrm_model.specs.values.Texts.{auto_bytes, group_bytes, job_bytes, quota_bytes, template_bytes}
 use Rattle.fsrm_model.proofs.valid.ScreensKept.{all_weaker}
 use Rattle.file_groups.specs.declared.answer.GroupFault.{GroupFault}
 use Rattle.file_groups.specs.declared.answer.GroupFault.TheVariants as group
 use Rattle.file_groups.specs.Faults.{IsFault as IsGroupFault, group_fault}
 use Rattle.file_groups.specs.Kept.{group_texts}
+use Rattle.fsrm_objects.specs.Kept.{most_job_bytes}
 use Rattle.fsrm_objects.specs.declared.answer.ObjectFault.{ObjectFault}
 use Rattle.fsrm_objects.specs.declared.answer.ObjectFault.TheVariants as object
-use Rattle.fsrm_objects.specs.Tables.{IsFault as IsObjectFault, Tables, except_fault, has_short_actions, has_short_texts, is_short, quota_fault, quota_texts, screen_bytes, screen_fault, screen_texts}
+use Rattle.fsrm_objects.specs.Tables.{IsFault as IsObjectFault, Tables, except_fault, has_short_actions, has_short_texts, is_short, job_fault, job_texts, quota_fault, quota_texts, screen_bytes, screen_fault, screen_texts}
 use Rattle.templates.specs.declared.answer.TemplateFault.{TemplateFault}
 use Rattle.templates.specs.declared.answer.TemplateFault.TheVariants as template
 use Rattle.templates.specs.Faults.{IsFault as IsTemplateFault, auto_fault, template_fault}
@@ -54,6 +62,7 @@ template_memory template.NoMemory due none is = refl
 pub object_memory : (fault : ObjectFault) (due : Option ObjectFault) → due ≡ None → IsObjectFault fault due → fault ≡ object.NoMemory
 object_memory object.AlreadyExists due none is = cc
 object_memory object.InvalidCombination due none is = cc
+object_memory object.DuplicateName due none is = cc
 object_memory object.OutOfRange due none is = cc
 object_memory object.TableFull due none is = cc
 object_memory object.TextsFull due none is = cc
@@ -143,3 +152,41 @@ screen_unrefused rows tables i row f came fits =
     ∙ (skip object.InvalidCombination _ _ (nor (has_row except_folder row.folder tables.excepts) (length row.groups == 0) own.alone own.some.0)
     ∙ (skip object.OutOfRange _ _ (nor (nat_lt most_screen_groups (length row.groups)) (nat_lt most_actions (length row.actions)) own.some.1 own.few)
     ∙ (skip object.TableFull _ _ f.room ∙ skip object.TextsFull _ _ (fitting (screen_bytes row) (screen_texts rows) f.part fits)))))
+
+-- ---- report jobs
+short_name : (name : List ℕ) → is_object_name name ≡ true → length name ≤ longest_name
+short_name name is =
+    le_is (length name) longest_name (both (nat_lt 0 (length name)) (nat_le (length name) longest_name) (both _ (list_all is_object_byte name) is).0).1
+
+short_pattern : (pattern : Option (List ℕ)) → option_map_or is_pattern pattern true ≡ true → option_map_or (λ (text : List ℕ). length text) pattern 0 ≤ longest_name
+short_pattern None is = omega arith
+short_pattern (Some text) is =
+    le_is (length text) longest_name (both (nat_lt 0 (length text)) (nat_le (length text) longest_name) (both _ _ (both _ _ is).0).0).1
+
+-- a job's texts are no longer than they may be
+pub job_short : (job : JobRow) → is_job job ≡ true → job_bytes job ≤ most_job_bytes
+job_short job is =
+    let parts = both (nat_lt job.number most_jobs && is_object_name job.name) _ is in
+    let name = short_name job.name (both (nat_lt job.number most_jobs) (is_object_name job.name) parts.0).1 in
+    let rest = both (is_filter job.filter) (is_schedule job.schedule && (nat_le job.made latest_moment && option_map_or (λ run. nat_le run latest_moment) job.last_run true)) parts.1 in
+    let schedule = (both (is_schedule job.schedule) (nat_le job.made latest_moment && option_map_or (λ run. nat_le run latest_moment) job.last_run true) rest.1).0 in
+    let short = le_is (length job.schedule) longest_schedule (both (nat_le (length job.schedule) longest_schedule) (list_all is_printing job.schedule) schedule).0 in
+    let files = both (option_map_or is_owner job.filter.owner true) (option_map_or is_pattern job.filter.pattern true && option_map_or is_length job.filter.min_size true) (both _ _ rest.0).0 in
+    let pattern = short_pattern job.filter.pattern (both (option_map_or is_pattern job.filter.pattern true) (option_map_or is_length job.filter.min_size true) files.1).0 in
+    omega (arith, name, short, pattern)
+
+pub job_unrefused : (rows : List JobRow) (tables : Tables) (i : ℕ) (row : JobRow) → Fills job_number is_job job_bytes most_jobs rows i row → tables.jobs ≡ take i rows → names_differ job_name rows ≡ true → job_texts rows ≤ most_text_bytes → job_fault tables row most_text_bytes ≡ None
+job_unrefused rows tables i row f came apart fits =
+    ap (λ (js : List JobRow). job_fault (record tables { jobs = js }) row most_text_bytes) came
+    ∙ (skip object.DuplicateName _ _ (is_some-find (is_named job_name row.name) (take i rows) ∙ unnamed job_name rows i row apart f.next)
+    ∙ (skip object.TableFull _ _ f.room ∙ skip object.TextsFull _ _ (fitting (job_bytes row) (job_texts rows) f.part fits)))
+
+-- a job that isn't refused has a name of its own
+named_first : (taken full more : Bool) → first ((object.DuplicateName when taken) ∷ (object.TableFull when full) ∷ (object.TextsFull when more) ∷ []) ≡ None → taken ≡ false
+named_first true full more h = cc
+named_first false full more h = refl
+
+pub job_apart : (tables : Tables) (row : JobRow) (room : ℕ) → job_fault tables row room ≡ None → list_any (is_named job_name row.name) tables.jobs ≡ false
+job_apart tables row room h =
+    sym (is_some-find (is_named job_name row.name) tables.jobs)
+    ∙ named_first (is_some (job_named tables.jobs row.name)) (nat_le most_jobs (length tables.jobs)) (nat_lt room (job_bytes row)) h

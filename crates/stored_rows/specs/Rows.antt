@@ -4,16 +4,18 @@ use Rattle.std.specs.List.{list_all}
 use Rattle.fsrm_base.specs.Keyed.{has_row, is_ascending}
 use Rattle.fsrm_model.specs.declared.row.AutoRow.{AutoRow}
 use Rattle.fsrm_model.specs.declared.row.ExceptRow.{ExceptRow}
+use Rattle.fsrm_model.specs.declared.row.JobRow.{JobRow}
 use Rattle.fsrm_model.specs.declared.row.QuotaRow.{QuotaRow}
 use Rattle.fsrm_model.specs.declared.row.ScreenRow.{ScreenRow}
 use Rattle.fsrm_model.specs.declared.row.TemplateRow.{TemplateRow}
 use Rattle.fsrm_model.specs.objects.AutoApply.{auto_folder, is_auto}
+use Rattle.fsrm_model.specs.objects.Jobs.{is_job, job_number}
 use Rattle.fsrm_model.specs.objects.Quota.{folder_of}
 use Rattle.fsrm_model.specs.objects.Screens.{except_folder, screen_folder}
 use Rattle.fsrm_model.specs.objects.Templates.{template_number}
 use Rattle.fsrm_model.specs.objects.Thresholds.{are_thresholds}
 use Rattle.fsrm_model.specs.store.Valid.{are_screen_actions}
-use Rattle.fsrm_model.specs.values.Limits.{most_autos, most_excepts, most_quotas, most_screen_groups, most_screens}
+use Rattle.fsrm_model.specs.values.Limits.{most_autos, most_excepts, most_jobs, most_quotas, most_screen_groups, most_screens}
 
 -- a list that ascends, has no more rows than it may, and rows of which each passes a test
 abbrev pub are_rows : {X : Type 0} → (X → ℕ) → ℕ → (X → Bool) → List X → Bool
@@ -44,3 +46,7 @@ is_alone_screen excepts screen =
 
 abbrev pub are_alone_screens : List ExceptRow → List ScreenRow → Bool
 are_alone_screens excepts screens = are_rows screen_folder most_screens (is_alone_screen excepts) screens
+
+-- report jobs, whose folders need not be there
+abbrev pub are_whole_jobs : List JobRow → Bool
+are_whole_jobs jobs = are_rows job_number most_jobs is_job jobs

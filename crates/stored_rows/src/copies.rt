@@ -6,8 +6,8 @@ ghost use Rattle.file_screens.specs.Blocked.{shown};
 use file_groups::Groups;
 use file_screens::{Audit, AuditView};
 use fsrm_model::{
-    ActRow, AuditRow, AutoRow, Duplicate, ExceptRow, GroupRow, List, NoMemory, QuotaRow, ScreenRow,
-    TemplateRow, Text,
+    ActRow, AuditRow, AutoRow, Duplicate, ExceptRow, GroupRow, JobRow, List, NoMemory, QuotaRow,
+    ScreenRow, TemplateRow, Text,
 };
 use fsrm_objects::Objects;
 use std::alloc::Global;
@@ -46,6 +46,18 @@ pub fn excepts_in(alloc: Global, objects: &Objects) -> Result<List<ExceptRow>, N
     let mut rows = List::new(alloc);
     for place in 0..objects.except_count() {
         rows.push(objects.except_at(place).copy(alloc)?)?;
+    }
+    Ok(rows)
+}
+
+/// Copies of the report jobs.
+#[tactic(auto, using(crate::proofs::Copied::one_more))]
+pub fn jobs_in(alloc: Global, objects: &Objects) -> Result<List<JobRow>, NoMemory>
+    ensures { IfOk result (λ rows. rows ≡ objects.now.jobs) }
+{
+    let mut rows = List::new(alloc);
+    for place in 0..objects.job_count() {
+        rows.push(objects.job_at(place).copy(alloc)?)?;
     }
     Ok(rows)
 }

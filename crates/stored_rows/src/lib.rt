@@ -11,7 +11,8 @@ mod object_rows;
 mod template_rows;
 
 pub use copies::{
-    acts_in, audits_in, autos_in, excepts_in, groups_in, quotas_in, screens_in, templates_in,
+    acts_in, audits_in, autos_in, excepts_in, groups_in, jobs_in, quotas_in, screens_in,
+    templates_in,
 };
 pub use group_rows::groups_of;
 pub use object_rows::objects_of;
