@@ -14,6 +14,7 @@ pub mod GroupListLaws
 pub mod GroupLaws
 pub mod PatternLaws
 pub mod ScreenLaws
+pub mod JobLaws
 pub mod SourceLaws
 pub mod TemplateLaws
 pub mod UpdateLaws

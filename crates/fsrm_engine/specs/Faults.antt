@@ -48,6 +48,7 @@ new_refusal v path =
 abbrev pub table_refusal : ObjectFault → Option Refusal
 table_refusal object.AlreadyExists = Some refusal.AlreadyExists
 table_refusal object.InvalidCombination = Some refusal.InvalidCombination
+table_refusal object.DuplicateName = Some refusal.DuplicateName
 table_refusal object.OutOfRange = Some refusal.OutOfRange
 table_refusal object.TableFull = Some refusal.TableFull
 table_refusal object.TextsFull = Some refusal.TextsFull

@@ -6,6 +6,7 @@ pub mod Peaks
 pub mod Crossing
 pub mod Due
 pub mod Faults
+pub mod Jobs
 pub mod Places
 pub mod Screening
 pub mod Sources

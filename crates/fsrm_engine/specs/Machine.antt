@@ -53,6 +53,7 @@ rows_of parts =
       quotas = parts.objects.quotas;
       screens = parts.objects.screens;
       excepts = parts.objects.excepts;
+      jobs = parts.objects.jobs;
       audits = parts.audit;
       acts = parts.marks.log;
       queue = parts.scans.queue;
@@ -71,7 +72,7 @@ abbrev pub bare : Volume → Course → Parts
 bare tree scans =
     record {
       tree = tree;
-      objects = record { quotas = []; screens = []; excepts = []; room = 0 };
+      objects = record { quotas = []; screens = []; excepts = []; jobs = []; room = 0 };
       groups = [];
       templates = record { templates = []; autos = [] };
       usage = [];

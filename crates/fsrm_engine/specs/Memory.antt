@@ -2,16 +2,18 @@
 use Rattle.std.specs.Prelude.{Bool, ◌&&◌, not, true, false, is_some}
 use Rattle.fsrm_model.specs.declared.command.AutoquotaDeed.TheVariants.{Add as AutoquotaAdd}
 use Rattle.fsrm_model.specs.declared.command.Deed.{Deed}
-use Rattle.fsrm_model.specs.declared.command.Deed.TheVariants.{File, Usage, Quota, Template, Autoquota, Filegroup, Screen, Exception}
+use Rattle.fsrm_model.specs.declared.command.Deed.TheVariants.{File, Usage, Quota, Template, Autoquota, Filegroup, Screen, Exception, Reports}
 use Rattle.fsrm_model.specs.declared.command.ExceptionDeed.TheVariants.{Add as ExceptionAdd}
 use Rattle.fsrm_model.specs.declared.command.FileOp.{FileOp}
 use Rattle.fsrm_model.specs.declared.command.FileOp.TheVariants.{Mkdir, Move}
 use Rattle.fsrm_model.specs.declared.command.FilegroupDeed.TheVariants.{Add as FilegroupAdd, Modify as FilegroupModify}
 use Rattle.fsrm_model.specs.declared.command.QuotaDeed.TheVariants.{Add as QuotaAdd, Modify as QuotaModify}
+use Rattle.fsrm_model.specs.declared.command.ReportsDeed.TheVariants.{Generate as ReportsGenerate, Add as ReportsAdd, Run as ReportsRun}
 use Rattle.fsrm_model.specs.declared.command.ScreenDeed.TheVariants.{Add as ScreenAdd, Modify as ScreenModify}
 use Rattle.fsrm_model.specs.declared.command.TemplateDeed.TheVariants.{Add as TemplateAdd, Modify as TemplateModify}
 use Rattle.fsrm_model.specs.declared.row.Rows.{Rows}
 use Rattle.fsrm_model.specs.objects.AutoApply.{template_for}
+use Rattle.fsrm_model.specs.objects.Jobs.{job_named}
 use Rattle.fsrm_model.specs.nodes.FileOps.{target_folder}
 use Rattle.fsrm_model.specs.nodes.Leads.{is_root, leads_to_folder}
 use Rattle.fsrm_model.specs.nodes.Tree.{folder_part, last_name}
@@ -26,7 +28,7 @@ op_may_want_memory R (Move from to) = leads_to_folder R.nodes from
 op_may_want_memory R other = false
 
 -- Of all commands: beside these, a folder is summed up, or an object is made or changed, and its folder is there if it has
--- one. No other command can run out of memory
+-- one; or a report is to be made of a folder or by a job that is there. No other command can run out of memory
 abbrev pub may_want_memory : Rows → Deed → Bool
 may_want_memory R (File op) = op_may_want_memory R op
 may_want_memory R (Usage path) = leads_to_folder R.nodes path
@@ -40,4 +42,7 @@ may_want_memory R (Template (TemplateAdd new)) = true
 may_want_memory R (Template (TemplateModify change)) = true
 may_want_memory R (Filegroup (FilegroupAdd new)) = true
 may_want_memory R (Filegroup (FilegroupModify change)) = true
+may_want_memory R (Reports (ReportsGenerate new)) = leads_to_folder R.nodes new.scope
+may_want_memory R (Reports (ReportsAdd new)) = leads_to_folder R.nodes new.scope
+may_want_memory R (Reports (ReportsRun name)) = is_some (job_named R.jobs name)
 may_want_memory R other = false

@@ -2,6 +2,7 @@
 use Rattle.std.specs.Prelude.{◌&&◌, nat_le, Bool, []}
 use Rattle.fsrm_model.specs.declared.row.Capacity.{Capacity}
 use Rattle.fsrm_model.specs.declared.row.Rows.{Rows}
+use Rattle.fsrm_model.specs.objects.Jobs.{job_name}
 use Rattle.fsrm_model.specs.objects.Templates.{template_name}
 use Rattle.fsrm_model.specs.store.Replays.{none_rebuilding}
 use Rattle.fsrm_model.specs.store.Valid.{is_valid}
@@ -22,7 +23,7 @@ is_restorable K R = is_valid K R && none_rebuilding R.quotas
 -- what the tables judge when they are filled: that names differ, and that all texts fit
 abbrev pub are_fitting : Rows → Bool
 are_fitting R =
-    (are_apart R.groups && names_differ template_name R.templates) && nat_le (object_texts R) most_text_bytes
+    (are_apart R.groups && (names_differ template_name R.templates && names_differ job_name R.jobs)) && nat_le (object_texts R) most_text_bytes
 
 -- parts with the objects of these rows
 abbrev pub with_objects : Parts → Rows → Parts
@@ -30,7 +31,7 @@ with_objects parts R =
     record parts {
       groups = R.groups;
       templates = record { templates = R.templates; autos = R.autos };
-      objects = record { quotas = R.quotas; screens = R.screens; excepts = R.excepts; room = 0 };
+      objects = record { quotas = R.quotas; screens = R.screens; excepts = R.excepts; jobs = R.jobs; room = 0 };
     }
 
 -- parts with the logs of these rows, and what they say of the engine itself

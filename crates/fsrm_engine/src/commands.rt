@@ -87,6 +87,7 @@ impl Parts {
             Deed::Filegroup(deed) => self.on_groups(alloc, deed.as_ref(), moment),
             Deed::Screen(deed) => self.on_screens(alloc, deed.as_ref(), moment, steps),
             Deed::Exception(deed) => self.on_exceptions(alloc, deed.as_ref(), moment, steps),
+            Deed::Reports(deed) => self.on_reports(alloc, deed.as_ref(), moment, steps),
             Deed::Admin(deed) => Ok(self.on_admin(deed, moment)),
         }
     }

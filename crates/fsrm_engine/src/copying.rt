@@ -5,10 +5,11 @@ ghost use Rattle.fsrm_model.specs.objects.QuotaStates.{head};
 ghost use Rattle.fsrm_engine.specs.Machine.{IsWhole, rows_of};
 
 use crate::parts::Parts;
-use fsrm_model::{Ledger, List, NoMemory, Rows, Steps};
+use fsrm_model::{Ledger, NoMemory, Rows, Steps};
 use std::alloc::Global;
 use stored_rows::{
-    acts_in, audits_in, autos_in, excepts_in, groups_in, quotas_in, screens_in, templates_in,
+    acts_in, audits_in, autos_in, excepts_in, groups_in, jobs_in, quotas_in, screens_in,
+    templates_in,
 };
 
 impl Parts {
@@ -30,7 +31,7 @@ impl Parts {
             groups: groups_in(alloc, &self.groups)?,
             screens: screens_in(alloc, &self.objects)?,
             excepts: excepts_in(alloc, &self.objects)?,
-            jobs: List::new(alloc),
+            jobs: jobs_in(alloc, &self.objects)?,
             acts: acts_in(alloc, &self.marks)?,
             audits: audits_in(alloc, &self.audit)?,
             queue: self.scans.waiting(alloc)?,

@@ -82,11 +82,12 @@ impl Engine {
         &self.parts.tree
     }
 
-    /// The quotas, the screens and their exceptions, lent.
+    /// The quotas, the screens and their exceptions, and the report jobs, lent.
     pub fn objects(&self) -> &Objects
         ensures quotas { result.now.quotas ≡ self.now.rows.quotas }
         ensures screens { result.now.screens ≡ self.now.rows.screens }
         ensures excepts { result.now.excepts ≡ self.now.rows.excepts }
+        ensures jobs { result.now.jobs ≡ self.now.rows.jobs }
         ensures store { IsValid self.now.size self.now.rows }
     {
         &self.parts.objects
@@ -171,8 +172,8 @@ impl Engine {
 
     /// Takes a command, when no act waits: the answer is the plain machine's, and so are the rows that are left and
     /// the acts that wait then. What it names is there. An `Err` changes nothing, and says that memory ran out: that can be
-    /// only if a folder is summed up, an object is made or changed, or the command is a file operation that may run out of
-    /// memory.
+    /// only if a folder is summed up, an object is made or changed, a report is to be made, or the command is a file
+    /// operation that may run out of memory.
     pub fn apply<L: Ledger>(
         &mut self,
         alloc: Global,

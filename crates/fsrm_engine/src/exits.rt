@@ -56,6 +56,7 @@ pub fn refused_for(fault: ObjectFault) -> Result<Answer, NoMemory>
     let refusal = match fault {
         ObjectFault::AlreadyExists => Refusal::AlreadyExists,
         ObjectFault::InvalidCombination => Refusal::InvalidCombination,
+        ObjectFault::DuplicateName => Refusal::DuplicateName,
         ObjectFault::OutOfRange => Refusal::OutOfRange,
         ObjectFault::TableFull => Refusal::TableFull,
         ObjectFault::TextsFull => Refusal::TextsFull,

@@ -48,6 +48,7 @@ mod places;
 mod quota_templates;
 mod quotas;
 mod removals;
+mod reports;
 mod restoring;
 mod rows;
 mod scanning;

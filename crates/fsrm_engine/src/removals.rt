@@ -89,8 +89,8 @@ impl Parts {
         self.done(moment)
     }
 
-    // Removes a folder, and with it its quota and its scan, its auto-apply quota, its screen and its exception. The
-    // path stands here for the clauses alone.
+    // Removes a folder, and with it its quota and its scan, its auto-apply quota, its screen and its exception, and the
+    // jobs that report on it. The path stands here for the clauses alone.
     fn remove_folder<L: Ledger>(
         &mut self,
         path: &Path,
@@ -114,6 +114,7 @@ impl Parts {
         self.tree.remove(node, steps).unwrap();
         drop_quota(&mut self.usage, &mut self.objects, node);
         drop_screens(&mut self.objects, node);
+        self.objects.drop_jobs(node);
         drop_auto(&mut self.templates, node);
         self.done(moment)
     }

@@ -6,6 +6,7 @@ ghost use Rattle.fsrm_model.specs.store.Valid.{AreQuotas, IsVolume, are_audits, 
 ghost use Rattle.fsrm_model.specs.values.Limits.{most_text_bytes};
 ghost use Rattle.fsrm_model.specs.values.Name.{names_differ};
 ghost use Rattle.fsrm_model.specs.values.Patterns.{are_apart};
+ghost use Rattle.fsrm_model.specs.objects.Jobs.{job_name};
 ghost use Rattle.fsrm_model.specs.objects.Templates.{template_name};
 ghost use Rattle.file_groups.specs.Kept.{group_texts};
 ghost use Rattle.fsrm_objects.specs.Tables.{texts_in as object_texts};
@@ -145,12 +146,14 @@ impl Parts {
 
     fn fill_objects(&mut self, alloc: Global, rows: &Rows) -> Result<(), RowsFault>
         requires { are_kept rows.now ≡ true }
-        ensures ok { OnOk result (self.new ≡ record self.old { objects = record { quotas = rows.now.quotas; screens = rows.now.screens; excepts = rows.now.excepts; room = 0 } }) }
+        ensures ok { OnOk result (self.new ≡ record self.old { objects = record { quotas = rows.now.quotas; screens = rows.now.screens; excepts = rows.now.excepts; jobs = rows.now.jobs; room = 0 } }) }
+        ensures may { OnOk result (names_differ job_name rows.now.jobs ≡ true) }
         ensures bad { IsErrOf result RowsFault.BadRows → are_fitting rows.now ≡ false }
     {
         let quotas = rows.quotas.as_slice();
         let screens = rows.screens.as_slice();
-        self.objects = objects_of(alloc, quotas, screens, rows.excepts.as_slice())?;
+        let excepts = rows.excepts.as_slice();
+        self.objects = objects_of(alloc, quotas, screens, excepts, rows.jobs.as_slice())?;
         Ok(())
     }
 

@@ -197,6 +197,7 @@ comes p q (Ok u) is room refused full = refl
 comes p q (Err object.NoMemory) is room refused full = absurd (let most = full refl in let few = is.few in omega (arith, most, few, room))
 comes p q (Err object.AlreadyExists) is room refused full = let e = sym (coming_fault p q is) ∙ refused in absurd (cc e)
 comes p q (Err object.InvalidCombination) is room refused full = let e = sym (coming_fault p q is) ∙ refused in absurd (cc e)
+comes p q (Err object.DuplicateName) is room refused full = let e = sym (coming_fault p q is) ∙ refused in absurd (cc e)
 comes p q (Err object.OutOfRange) is room refused full = let e = sym (coming_fault p q is) ∙ refused in absurd (cc e)
 comes p q (Err object.TableFull) is room refused full = let e = sym (coming_fault p q is) ∙ refused in absurd (cc e)
 comes p q (Err object.TextsFull) is room refused full = let e = sym (coming_fault p q is) ∙ refused in absurd (cc e)

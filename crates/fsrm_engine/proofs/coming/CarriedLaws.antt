@@ -194,7 +194,7 @@ module _ (p : Parts) (w : IsWhole p) (m : ℕ) (from to : List (List ℕ)) (v : 
           followed_rows p (mid new) (asked p m (File op)).effect quotas r.queue u
           (record { size = refl; marks = refl; crossing = refl; groups = refl; templates = refl; audit = refl; run_limit = refl; last_moment = refl })
           (effect_as R op m new.nodes quotas p.objects p.templates.autos r.queue nodes
-          (record { quotas_are = ap (fold quotas_with p.objects.quotas) coming; screens_are = refl; excepts_are = refl; autos_are = refl })
+          (record { quotas_are = ap (fold quotas_with p.objects.quotas) coming; screens_are = refl; excepts_are = refl; jobs_are = refl; autos_are = refl })
           (ap (fold queue_with p.scans.queue) coming ∙ sym queue))
           goes.queue
           (moved_left p.scans r t p.tree new x d turns goes (folders_moved p.tree.size p.tree.nodes x d name w.valid.volume kept to_it) (alone r.queue queue)

@@ -269,7 +269,7 @@ module _ (p : Parts) (w : IsWhole p) (m : ℕ) (path : List (List ℕ)) (owner d
           (op_accepts p mid m op quotas (λ scanned. unvisited_with row (left (without_node tree n).nodes p.scans)) idle after
           (made_due free ∙ may)
           (ap (λ (u : Volume). u.nodes) (sym (made_is p.tree path d name true 0 owner m at)))
-          (record { quotas_are = ap (fold quotas_with p.objects.quotas) coming; screens_are = refl; excepts_are = refl; autos_are = refl })
+          (record { quotas_are = ap (fold quotas_with p.objects.quotas) coming; screens_are = refl; excepts_are = refl; jobs_are = refl; autos_are = refl })
           (ap (fold queue_with p.scans.queue) coming ∙ queue_stays source)
           (mkdir_next p tree path d name owner m n (plain nodes op m) at node.back)
           (follows row node.found)

@@ -8,6 +8,7 @@ use Rattle.fsrm_model.specs.declared.command.FileOp.{FileOp}
 use Rattle.fsrm_model.specs.declared.command.FileOp.TheVariants as op
 use Rattle.fsrm_model.specs.declared.command.FileOp.TheVariants.{Mkdir, Create, Resize, Touch, Remove}
 use Rattle.fsrm_model.specs.declared.row.AutoRow.{AutoRow}
+use Rattle.fsrm_model.specs.declared.row.JobRow.{JobRow}
 use Rattle.fsrm_model.specs.declared.row.NodeRow.{NodeRow}
 use Rattle.fsrm_model.specs.declared.row.QuotaRow.{QuotaRow}
 use Rattle.fsrm_model.specs.declared.row.Rows.{Rows}
@@ -41,7 +42,7 @@ use Rattle.fsrm_engine.proofs.steps.PlaceLaws.{target_is}
 use Rattle.fsrm_engine.proofs.steps.StepLaws.{Accepts, Keeps, asked, due, followed_rows, same_own, still_idle}
 
 -- the rows that a file operation leaves, table by table
-effect_is : (R : Rows) (op : FileOp) (m : ℕ) → file_effect R op m ≡ record R { nodes = plain R.nodes op m; autos = (file_effect R op m).autos; quotas = (file_effect R op m).quotas; screens = (file_effect R op m).screens; excepts = (file_effect R op m).excepts; queue = (file_effect R op m).queue; unvisited = option_map_or (unvisited_in R (plain R.nodes op m) op) (head R.queue) [] }
+effect_is : (R : Rows) (op : FileOp) (m : ℕ) → file_effect R op m ≡ record R { nodes = plain R.nodes op m; autos = (file_effect R op m).autos; quotas = (file_effect R op m).quotas; screens = (file_effect R op m).screens; excepts = (file_effect R op m).excepts; jobs = (file_effect R op m).jobs; queue = (file_effect R op m).queue; unvisited = option_map_or (unvisited_in R (plain R.nodes op m) op) (head R.queue) [] }
 effect_is R (Mkdir path owner) m = refl
 effect_is R (Create path length owner) m = refl
 effect_is R (Resize path length) m = refl
@@ -54,21 +55,23 @@ pub record LeavesTables (R : Rows) (op : FileOp) (m : ℕ) (quotas : List QuotaR
   pub quotas_are : (file_effect R op m).quotas ≡ quotas
   pub screens_are : (file_effect R op m).screens ≡ tables.screens
   pub excepts_are : (file_effect R op m).excepts ≡ tables.excepts
+  pub jobs_are : (file_effect R op m).jobs ≡ tables.jobs
   pub autos_are : (file_effect R op m).autos ≡ autos
 
-pub effect_as : (R : Rows) (op : FileOp) (m : ℕ) (nodes : List NodeRow) (quotas : List QuotaRow) (tables : Tables) (autos : List AutoRow) (queue : List ℕ) → plain R.nodes op m ≡ nodes → LeavesTables R op m quotas tables autos → (file_effect R op m).queue ≡ queue → file_effect R op m ≡ record R { nodes = nodes; autos = autos; quotas = quotas; screens = tables.screens; excepts = tables.excepts; queue = queue; unvisited = option_map_or (unvisited_in R (plain R.nodes op m) op) (head R.queue) [] }
+pub effect_as : (R : Rows) (op : FileOp) (m : ℕ) (nodes : List NodeRow) (quotas : List QuotaRow) (tables : Tables) (autos : List AutoRow) (queue : List ℕ) → plain R.nodes op m ≡ nodes → LeavesTables R op m quotas tables autos → (file_effect R op m).queue ≡ queue → file_effect R op m ≡ record R { nodes = nodes; autos = autos; quotas = quotas; screens = tables.screens; excepts = tables.excepts; jobs = tables.jobs; queue = queue; unvisited = option_map_or (unvisited_in R (plain R.nodes op m) op) (head R.queue) [] }
 effect_as R op m nodes quotas tables autos queue nodes_are leaves queue_is =
     let u = option_map_or (unvisited_in R (plain R.nodes op m) op) (head R.queue) [] in
     let E = file_effect R op m in
-    let of : List NodeRow → List AutoRow → List QuotaRow → List ScreenRow → List ExceptRow → List ℕ → Rows =
-    λ nodes autos quotas screens excepts queue. record R { nodes = nodes; autos = autos; quotas = quotas; screens = screens; excepts = excepts; queue = queue; unvisited = u } in
+    let of : List NodeRow → List AutoRow → List QuotaRow → List ScreenRow → List ExceptRow → List JobRow → List ℕ → Rows =
+    λ nodes autos quotas screens excepts jobs queue. record R { nodes = nodes; autos = autos; quotas = quotas; screens = screens; excepts = excepts; jobs = jobs; queue = queue; unvisited = u } in
     effect_is R op m
-    ∙ (ap (λ ns. of ns E.autos E.quotas E.screens E.excepts E.queue) nodes_are
-    ∙ (ap (λ as'. of nodes as' E.quotas E.screens E.excepts E.queue) leaves.autos_are
-    ∙ (ap (λ qs. of nodes autos qs E.screens E.excepts E.queue) leaves.quotas_are
-    ∙ (ap (λ ss. of nodes autos quotas ss E.excepts E.queue) leaves.screens_are
-    ∙ (ap (λ es. of nodes autos quotas tables.screens es E.queue) leaves.excepts_are
-    ∙ ap (of nodes autos quotas tables.screens tables.excepts) queue_is)))))
+    ∙ (ap (λ ns. of ns E.autos E.quotas E.screens E.excepts E.jobs E.queue) nodes_are
+    ∙ (ap (λ as'. of nodes as' E.quotas E.screens E.excepts E.jobs E.queue) leaves.autos_are
+    ∙ (ap (λ qs. of nodes autos qs E.screens E.excepts E.jobs E.queue) leaves.quotas_are
+    ∙ (ap (λ ss. of nodes autos quotas ss E.excepts E.jobs E.queue) leaves.screens_are
+    ∙ (ap (λ es. of nodes autos quotas tables.screens es E.jobs E.queue) leaves.excepts_are
+    ∙ (ap (λ js. of nodes autos quotas tables.screens tables.excepts js E.queue) leaves.jobs_are
+    ∙ ap (of nodes autos quotas tables.screens tables.excepts tables.jobs) queue_is))))))
 
 option_each : (f g : ℕ → List ℕ) (o : Option ℕ) → ((n : ℕ) → f n ≡ g n) → option_map_or f o [] ≡ option_map_or g o []
 option_each f g None h = refl

@@ -1,6 +1,6 @@
 -- A removal that can't be refused, and what that of a folder leaves to the scans.
 use Rattle.std.proofs.Common.{◌≡◌, ℕ, ◌==◌, ◌≤◌, Bool, true, false, not, ◌&&◌, List, [], ◌∷◌, length, Option, Some, None, ◌<◌, arith, refl, ap, sym, ◌∙◌}
-use Rattle.std.specs.Prelude.{Result, Ok, Err, IfErr, if◌then◌else◌}
+use Rattle.std.specs.Prelude.{filter, Result, Ok, Err, IfErr, if◌then◌else◌}
 use Rattle.std.specs.Result.{IsOk}
 use Rattle.std.specs.Option.{option_map_or}
 use Rattle.fsrm_base.specs.Causes.{◌when◌}
@@ -15,6 +15,7 @@ use Rattle.fsrm_base.specs.Keyed.{without_row}
 use Rattle.fsrm_base.specs.Numbers.{is_in, without_number}
 use Rattle.fsrm_model.specs.objects.QuotaStates.{head, same_head, scan_begun}
 use Rattle.fsrm_model.specs.objects.Scan.{folders_under}
+use Rattle.fsrm_model.specs.objects.Jobs.{is_elsewhere}
 use Rattle.fsrm_model.specs.objects.Screens.{screen_folder, except_folder}
 use Rattle.fsrm_model.specs.nodes.Tree.{number, node_of, is_folder, children, resolve}
 use Rattle.fsrm_model.specs.store.Valid.{IsVolume}
@@ -27,7 +28,7 @@ use Rattle.rescan.proofs.followed.ChangeLaws.{removed}
 use Rattle.rescan.proofs.followed.FollowLaws.{folder_stands}
 use Rattle.rescan.proofs.followed.FrontierLaws.{begun, begun_unvisited, begins}
 use Rattle.templates.specs.Held.{without_auto}
-use Rattle.fsrm_objects.specs.Tables.{Tables, without_except, without_quota, without_screen}
+use Rattle.fsrm_objects.specs.Tables.{Tables, without_except, without_jobs, without_quota, without_screen}
 use Rattle.rescan.proofs.queued.Following.{absent_apart}
 use Rattle.rescan.proofs.queued.Queues.{first_in}
 use Rattle.rescan.specs.Courses.{Course, Scanning, Goes, Turns, left}
@@ -82,7 +83,7 @@ rmdir_left s s1 v w n now is turns each =
 
 -- the objects without those of the folder
 abbrev pub without_objects : Tables → ℕ → Tables
-without_objects tables n = without_except (without_screen (without_quota tables n) n) n
+without_objects tables n = without_jobs (without_except (without_screen (without_quota tables n) n) n) n
 
 -- so the removal is taken
 pub rmdir_accepts : (p mid : Parts) (s1 : Course) (m : ℕ) (path : List (List ℕ)) (n : ℕ) → IsIdle p → p.last_moment ≤ m → due p m (File (Remove path)) ≡ None → resolve p.tree.nodes path ≡ Some n → mid.tree ≡ without_node p.tree n → mid.objects ≡ without_objects p.objects n → s1.queue ≡ without_number n p.scans.queue → Turns p.scans s1 p.tree → Goes s1 mid.scans mid.tree (λ scanned. without_number n (left p.tree.nodes s1)) → ((f : ℕ) → head s1.queue ≡ Some f → without_number n (folders_under p.tree.nodes f) ≡ folders_under mid.tree.nodes f) → Keeps (record p { templates = without_auto p.templates n }) mid → Accepts p mid m (File (Remove path))
@@ -106,6 +107,7 @@ rmdir_accepts p mid s1 m path n idle after none at made taken gone turns goes ea
             quotas_are = ap (λ x. without_row folder_of x p.objects.quotas) to ∙ sym (ap (λ (t : Tables). t.quotas) taken);
             screens_are = ap (λ x. without_row screen_folder x p.objects.screens) to ∙ sym (ap (λ (t : Tables). t.screens) taken);
             excepts_are = ap (λ x. without_row except_folder x p.objects.excepts) to ∙ sym (ap (λ (t : Tables). t.excepts) taken);
+            jobs_are = ap (λ x. filter (is_elsewhere x) p.objects.jobs) to ∙ sym (ap (λ (t : Tables). t.jobs) taken);
             autos_are = ap (λ x. without_row auto_folder x p.templates.autos) to;
           })
           (remove_queue p m path n at ∙ sym gone))

@@ -1,21 +1,24 @@
 -- What goes makes nothing due.
-use Rattle.std.proofs.Common.{◌≡◌, ℕ, ◌≤◌, ◌==◌, Bool, true, false, cond, List, [], Option, Some, None, refl, ap, sym, ◌∙◌, subst, arith}
-use Rattle.std.specs.Prelude.{map, option_map}
+use Rattle.std.proofs.Common.{◌≡◌, ℕ, ◌≤◌, ◌==◌, ◌&&◌, nat_le, Bool, true, false, cond, List, [], ◌∷◌, length, Option, Some, None, refl, ap, sym, ◌∙◌, subst, arith}
+use Rattle.std.specs.Prelude.{filter, map, option_map}
 use Rattle.std.specs.List.{list_all}
-use Rattle.fsrm_base.specs.Keyed.{has_row, row_of, without_row}
+use Rattle.fsrm_base.specs.Keyed.{has_row, is_ascending, row_of, without_row}
 use Rattle.fsrm_base.proofs.EditedRows.{without_absent}
 use Rattle.fsrm_base.proofs.Look.{found_key, has_found, row_of-without}
 use Rattle.fsrm_base.proofs.Members.{all_found}
-use Rattle.fsrm_base.proofs.TestLaws.{both, clash, not_true}
+use Rattle.fsrm_base.proofs.TestLaws.{both, clash, eq_is, fails, not_true}
+use Rattle.fsrm_model.specs.declared.row.JobRow.{JobRow}
 use Rattle.fsrm_model.specs.declared.row.QuotaRow.{QuotaRow}
 use Rattle.fsrm_model.specs.objects.AutoApply.{auto_folder}
-use Rattle.fsrm_model.specs.values.Limits.{most_excepts}
+use Rattle.fsrm_model.specs.values.Limits.{most_excepts, most_jobs}
+use Rattle.fsrm_model.specs.values.Name.{names_differ}
+use Rattle.fsrm_model.specs.objects.Jobs.{is_elsewhere, is_job, job_name, job_number}
 use Rattle.fsrm_model.specs.objects.Quota.{folder_of}
 use Rattle.fsrm_model.specs.objects.Screens.{screen_folder, except_folder}
 use Rattle.fsrm_model.specs.nodes.Tree.{is_folder}
-use Rattle.fsrm_model.specs.store.Valid.{are_group_numbers, is_sound_auto, is_sound_except}
+use Rattle.fsrm_model.specs.store.Valid.{are_group_numbers, is_sound_auto, is_sound_except, is_sound_job}
 use Rattle.fsrm_model.proofs.valid.RowsKept.{screens_folder}
-use Rattle.fsrm_model.proofs.valid.ScreensKept.{table_parts}
+use Rattle.fsrm_model.proofs.valid.ScreensKept.{all_weaker, table_parts}
 use Rattle.fsrm_model.proofs.valid.TemplatesKept.{auto_parts}
 use Rattle.quota_usage.specs.declared.change.Change.{Change}
 use Rattle.quota_usage.specs.declared.change.Counter.{Counter}
@@ -79,6 +82,23 @@ no_except p n w file = unfoldered except_folder p.objects.excepts (is_folder p.t
         let own = all_found (is_sound_except p.tree.nodes p.groups) (λ e. except_folder e == n) p.objects.excepts found.row table.each found.is in
         ap (is_folder p.tree.nodes) (sym (found_key except_folder n p.objects.excepts found.row found.is))
         ∙ (both (is_folder p.tree.nodes found.row.folder) (are_group_numbers p.groups found.row.groups) own).0
+
+-- a test that no row fails keeps them all
+all_pass : {X : Type 0} (p : X → Bool) (rows : List X) → list_all p rows ≡ true → filter p rows ≡ rows
+all_pass p [] h = refl
+all_pass p (x ∷ rows) h =
+    let is = both (p x) (list_all p rows) h in
+    ap (λ b. cond b (x ∷ filter p rows) (filter p rows)) is.0 ∙ ap (λ rest. x ∷ rest) (all_pass p rows is.1)
+
+pub no_job : (p : Parts) (n : ℕ) → IsWhole p → is_folder p.tree.nodes n ≡ false → filter (is_elsewhere n) p.objects.jobs ≡ p.objects.jobs
+no_job p n w file =
+    let jobs = p.objects.jobs in
+    let each = (both (list_all (is_sound_job p.tree.nodes) jobs) (names_differ job_name jobs) (both (is_ascending job_number jobs && nat_le (length jobs) most_jobs) (list_all (is_sound_job p.tree.nodes) jobs && names_differ job_name jobs) w.valid.tables.jobs).1).0 in
+    all_pass (is_elsewhere n) jobs (all_weaker (is_sound_job p.tree.nodes) (is_elsewhere n) jobs elsewhere each)
+  where
+    elsewhere : (job : JobRow) → is_sound_job p.tree.nodes job ≡ true → is_elsewhere n job ≡ true
+    elsewhere job is =
+        fails (job.scope == n) (λ t. clash (is_folder p.tree.nodes n) (ap (is_folder p.tree.nodes) (sym (eq_is job.scope n t)) ∙ (both (is_folder p.tree.nodes job.scope) (is_job job) is).0) file)
 
 pub no_auto : (p : Parts) (n : ℕ) → IsWhole p → is_folder p.tree.nodes n ≡ false → without_row auto_folder n p.templates.autos ≡ p.templates.autos
 no_auto p n w file = unfoldered auto_folder p.templates.autos (is_folder p.tree.nodes) n there file

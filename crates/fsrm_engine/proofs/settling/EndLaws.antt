@@ -50,7 +50,7 @@ ended_rows mid run m acts quotas own r raised =
     let of : List QuotaRow → List ActRow → Rows = λ qs log. record (rows_of mid) { quotas = qs; acts = log; last_moment = m } in
     let log : List ActRow = last_entries (mid.marks.log ++ map (entry_of m) acts) in
     ap (λ (q : Parts). rows_of (ended q m)) r.parts_are
-    ∙ (ap (λ (t : Tables). record (of (map (peaked K nodes m) t.quotas) run.marks.log) { screens = t.screens; excepts = t.excepts }) r.settles.tables
+    ∙ (ap (λ (t : Tables). record (of (map (peaked K nodes m) t.quotas) run.marks.log) { screens = t.screens; excepts = t.excepts; jobs = t.jobs }) r.settles.tables
     ∙ (ap (of (map (peaked K nodes m) (map (run_quota m acts) mid.objects.quotas))) r.settles.log
     ∙ (ap (λ qs. of qs log) (peaked_runs K nodes m acts mid.objects.quotas ∙ ap (map (run_quota m acts)) raised)
     ∙ ap (λ (screens : List ScreenRow). record (of (map (run_quota m acts) (map (peaked K nodes m) quotas)) log) { screens = screens }) (sym (screens_unrun m acts mid.objects.screens own)))))
@@ -62,7 +62,7 @@ left_rows mid run m acts own r =
     let nodes = mid.tree.nodes in
     let of : List QuotaRow → List ActRow → Rows = λ qs log. record (rows_of mid) { quotas = qs; acts = log; last_moment = m } in
     ap (λ (q : Parts). rows_of (ended q m)) r.parts_are
-    ∙ (ap (λ (t : Tables). record (of (map (peaked K nodes m) t.quotas) run.marks.log) { screens = t.screens; excepts = t.excepts }) r.settles.tables
+    ∙ (ap (λ (t : Tables). record (of (map (peaked K nodes m) t.quotas) run.marks.log) { screens = t.screens; excepts = t.excepts; jobs = t.jobs }) r.settles.tables
     ∙ (ap (of (map (peaked K nodes m) (map (run_quota m acts) mid.objects.quotas))) r.settles.log
     ∙ ap (λ (screens : List ScreenRow). record (of (map (peaked K nodes m) (map (run_quota m acts) mid.objects.quotas)) (last_entries (mid.marks.log ++ map (entry_of m) acts))) { screens = screens }) (sym (screens_unrun m acts mid.objects.screens own))))
 

@@ -15,6 +15,7 @@ use Rattle.fsrm_model.specs.declared.row.GroupRow.{GroupRow}
 use Rattle.fsrm_model.specs.declared.row.ScreenRow.{ScreenRow}
 use Rattle.fsrm_model.specs.nodes.Tree.{is_folder}
 use Rattle.fsrm_model.specs.objects.AutoApply.{auto_folder, is_auto}
+use Rattle.fsrm_model.specs.objects.Jobs.{is_job, job_name, job_number}
 use Rattle.fsrm_model.specs.objects.Quota.{folder_of, is_limit}
 use Rattle.fsrm_model.specs.objects.Screens.{except_folder, screen_folder}
 use Rattle.fsrm_model.specs.objects.Thresholds.{are_thresholds}
@@ -23,20 +24,20 @@ use Rattle.fsrm_model.specs.objects.Templates.{is_template, template_name, templ
 use Rattle.fsrm_model.specs.store.Capacities.{is_capacity}
 use Rattle.fsrm_model.specs.store.Lasting.{lasting}
 use Rattle.fsrm_model.specs.store.Replays.{none_rebuilding}
-use Rattle.fsrm_model.specs.store.Valid.{IsValid, IsVolume, are_audits, are_autos, are_entries, are_excepts, are_group_numbers, are_groups, are_quotas, are_screen_actions, are_screens, are_tables, are_templates, has_source, is_empty, is_moment, is_sound_auto, is_sound_except, is_sound_quota, is_sound_screen, is_tree, is_valid}
+use Rattle.fsrm_model.specs.store.Valid.{IsValid, IsVolume, are_audits, are_autos, are_entries, are_excepts, are_group_numbers, are_groups, are_jobs, are_quotas, are_screen_actions, are_screens, are_tables, are_templates, has_source, is_empty, is_moment, is_sound_auto, is_sound_except, is_sound_job, is_sound_quota, is_sound_screen, is_tree, is_valid}
 use Rattle.fsrm_model.specs.store.ValidScans.{are_left, is_queue}
-use Rattle.fsrm_model.specs.values.Limits.{most_autos, most_excepts, most_groups, most_minutes, most_quotas, most_screens, most_templates, most_text_bytes}
+use Rattle.fsrm_model.specs.values.Limits.{most_autos, most_excepts, most_groups, most_jobs, most_minutes, most_quotas, most_screens, most_templates, most_text_bytes}
 use Rattle.fsrm_model.specs.values.Name.{names_differ}
 use Rattle.fsrm_model.specs.values.Patterns.{are_apart, group_number, is_group}
-use Rattle.fsrm_model.specs.values.Texts.{auto_bytes, job_bytes, object_texts, template_bytes}
+use Rattle.fsrm_model.specs.values.Texts.{auto_bytes, object_texts, template_bytes}
 use Rattle.fsrm_model.proofs.journal.WholeLaws.{kept_whole}
 use Rattle.fsrm_model.proofs.valid.ScreensKept.{all_weaker}
 use Rattle.fsrm_model.proofs.valid.ValidTests.{test_by_valid, valid_by_test}
 use Rattle.rescan.proofs.queued.Turning.{none_left}
 use Rattle.file_groups.specs.Kept.{group_texts}
-use Rattle.fsrm_objects.specs.Tables.{quota_texts, screen_texts}
-use Rattle.stored_rows.specs.Rows.{are_alone_screens, are_named_excepts, are_some_groups, are_tied_autos, are_whole_quotas, is_alone_screen, is_tied_auto}
-use Rattle.row_rules.specs.Kept.{are_kept, are_kept_quotas, are_kept_screens, are_numbered_groups, are_numbered_templates, is_kept_rest}
+use Rattle.fsrm_objects.specs.Tables.{job_texts, quota_texts, screen_texts}
+use Rattle.stored_rows.specs.Rows.{are_alone_screens, are_named_excepts, are_some_groups, are_tied_autos, are_whole_jobs, are_whole_quotas, is_alone_screen, is_tied_auto}
+use Rattle.row_rules.specs.Kept.{are_kept, are_kept_quotas, are_kept_screens, are_numbered_groups, are_numbered_jobs, are_numbered_templates, is_kept_rest}
 use Rattle.volume_tree.specs.Volume.{Volume}
 use Rattle.volume_tree.specs.declared.answer.RowsFault.{RowsFault}
 use Rattle.fsrm_engine.specs.declared.parts.Parts.{Parts}
@@ -68,7 +69,8 @@ pub record Kept (R : Rows) : Type 0 where
   pub audits : are_audits R.audits ≡ true
   pub run_limit : nat_le R.run_limit most_minutes ≡ true
   pub last_moment : is_moment R.last_moment ≡ true
-  pub jobs : is_empty R.jobs ≡ true
+  pub jobs : (is_ascending job_number R.jobs && nat_le (length R.jobs) most_jobs) ≡ true
+  pub each_job : list_all (is_sound_job R.nodes) R.jobs ≡ true
   pub queue : is_empty R.queue ≡ true
   pub unvisited : is_empty R.unvisited ≡ true
 
@@ -84,11 +86,12 @@ kept_parts R h =
     let s = both (are_numbered_groups R.groups) (are_excepts R.nodes R.groups R.excepts && are_screens R.nodes R.groups R.excepts R.screens) others.0 in
     let group = both (is_ascending group_number R.groups && nat_le (length R.groups) most_groups) (list_all is_group R.groups) s.0 in
     let barred = both (are_excepts R.nodes R.groups R.excepts) (are_screens R.nodes R.groups R.excepts R.screens) s.1 in
-    let r = both ((are_entries R.acts && are_audits R.audits) && (nat_le R.run_limit most_minutes && is_moment R.last_moment)) (is_empty R.jobs && (is_empty R.queue && is_empty R.unvisited)) others.1 in
+    let r = both ((are_entries R.acts && are_audits R.audits) && (nat_le R.run_limit most_minutes && is_moment R.last_moment)) (are_numbered_jobs R.nodes R.jobs && (is_empty R.queue && is_empty R.unvisited)) others.1 in
     let logged = both (are_entries R.acts && are_audits R.audits) (nat_le R.run_limit most_minutes && is_moment R.last_moment) r.0 in
     let logs = both (are_entries R.acts) (are_audits R.audits) logged.0 in
     let set = both (nat_le R.run_limit most_minutes) (is_moment R.last_moment) logged.1 in
-    let none = both (is_empty R.jobs) (is_empty R.queue && is_empty R.unvisited) r.1 in
+    let none = both (are_numbered_jobs R.nodes R.jobs) (is_empty R.queue && is_empty R.unvisited) r.1 in
+    let job = both (is_ascending job_number R.jobs && nat_le (length R.jobs) most_jobs) (list_all (is_sound_job R.nodes) R.jobs) none.0 in
     let scans = both (is_empty R.queue) (is_empty R.unvisited) none.1 in
     record {
       templates = template.0;
@@ -105,7 +108,8 @@ kept_parts R h =
       audits = logs.1;
       run_limit = set.0;
       last_moment = set.1;
-      jobs = none.0;
+      jobs = job.0;
+      each_job = job.1;
       queue = scans.0;
       unvisited = scans.1;
     }
@@ -114,12 +118,12 @@ kept_joined : (R : Rows) → Kept R → are_kept R ≡ true
 kept_joined R k =
     at (is_ascending template_number R.templates && nat_le (length R.templates) most_templates) (list_all is_template R.templates) (are_quotas R.nodes R.quotas) (list_all (has_source R.templates) R.quotas) (are_autos R.nodes R.templates R.autos) (none_rebuilding R.quotas)
     (is_ascending group_number R.groups && nat_le (length R.groups) most_groups) (list_all is_group R.groups) (are_excepts R.nodes R.groups R.excepts) (are_screens R.nodes R.groups R.excepts R.screens)
-    (are_entries R.acts) (are_audits R.audits) (nat_le R.run_limit most_minutes) (is_moment R.last_moment) (is_empty R.jobs) (is_empty R.queue) (is_empty R.unvisited)
-    k.templates k.each_template k.quotas k.sources k.autos k.none k.groups k.each_group k.excepts k.screens k.acts k.audits k.run_limit k.last_moment k.jobs k.queue k.unvisited
+    (are_entries R.acts) (are_audits R.audits) (nat_le R.run_limit most_minutes) (is_moment R.last_moment) (is_ascending job_number R.jobs && nat_le (length R.jobs) most_jobs) (list_all (is_sound_job R.nodes) R.jobs) (is_empty R.queue) (is_empty R.unvisited)
+    k.templates k.each_template k.quotas k.sources k.autos k.none k.groups k.each_group k.excepts k.screens k.acts k.audits k.run_limit k.last_moment k.jobs k.each_job k.queue k.unvisited
   where
-    at : (a b c d e f g h i j l m n o p q r : Bool) → a ≡ true → b ≡ true → c ≡ true → d ≡ true → e ≡ true → f ≡ true → g ≡ true → h ≡ true → i ≡ true → j ≡ true → l ≡ true → m ≡ true → n ≡ true → o ≡ true → p ≡ true → q ≡ true → r ≡ true
-        → ((((a && b) && (c && d)) && (e && f)) && (((g && h) && (i && j)) && (((l && m) && (n && o)) && (p && (q && r))))) ≡ true
-    at a b c d e f g h i j l m n o p q r ka kb kc kd ke kf kg kh ki kj kl km kn ko kp kq kr = rw (ka, kb, kc, kd, ke, kf, kg, kh, ki, kj, kl, km, kn, ko, kp, kq, kr) refl
+    at : (a b c d e f g h i j l m n o p s q r : Bool) → a ≡ true → b ≡ true → c ≡ true → d ≡ true → e ≡ true → f ≡ true → g ≡ true → h ≡ true → i ≡ true → j ≡ true → l ≡ true → m ≡ true → n ≡ true → o ≡ true → p ≡ true → s ≡ true → q ≡ true → r ≡ true
+        → ((((a && b) && (c && d)) && (e && f)) && (((g && h) && (i && j)) && (((l && m) && (n && o)) && ((p && s) && (q && r))))) ≡ true
+    at a b c d e f g h i j l m n o p s q r ka kb kc kd ke kf kg kh ki kj kl km kn ko kp ks kq kr = rw (ka, kb, kc, kd, ke, kf, kg, kh, ki, kj, kl, km, kn, ko, kp, ks, kq, kr) refl
 
 -- a queue without folders, and nothing to be visited
 none_waits : (quotas : List QuotaRow) (queue : List ℕ) → is_empty queue ≡ true → none_rebuilding quotas ≡ true → is_queue quotas queue ≡ true
@@ -135,20 +139,23 @@ nothing_left nodes (n ∷ queue) unvisited e h = cc
 pub record Fitting (R : Rows) : Type 0 where
   pub apart : are_apart R.groups ≡ true
   pub differ : names_differ template_name R.templates ≡ true
+  pub jobs_differ : names_differ job_name R.jobs ≡ true
   pub texts : nat_le (object_texts R) most_text_bytes ≡ true
 
 pub fitting_parts : (R : Rows) → are_fitting R ≡ true → Fitting R
 fitting_parts R h =
-    let all = both (are_apart R.groups && names_differ template_name R.templates) (nat_le (object_texts R) most_text_bytes) h in
-    let names = both (are_apart R.groups) (names_differ template_name R.templates) all.0 in
-    record { apart = names.0; differ = names.1; texts = all.1 }
+    let all = both (are_apart R.groups && (names_differ template_name R.templates && names_differ job_name R.jobs)) (nat_le (object_texts R) most_text_bytes) h in
+    let names = both (are_apart R.groups) (names_differ template_name R.templates && names_differ job_name R.jobs) all.0 in
+    let others = both (names_differ template_name R.templates) (names_differ job_name R.jobs) names.1 in
+    record { apart = names.0; differ = others.0; jobs_differ = others.1; texts = all.1 }
 
 pub valid_judged : (K : Capacity) (R : Rows) → is_tree K R.nodes ≡ true → Kept R → Fitting R → is_valid K R ≡ true
 valid_judged K R tree k f =
     let templates : are_templates R.templates ≡ true = both_true _ _ k.templates (both_true _ _ k.each_template f.differ) in
     let groups : are_groups R.groups ≡ true = both_true _ _ k.groups (both_true _ _ k.each_group f.apart) in
+    let jobs : are_jobs R.nodes R.jobs ≡ true = both_true _ _ k.jobs (both_true _ _ k.each_job f.jobs_differ) in
     let tables : are_tables R ≡ true =
-    both_true _ _ (both_true _ _ k.sources (both_true _ _ templates (both_true _ _ k.autos k.jobs))) (both_true _ _ (both_true _ _ groups k.screens) (both_true _ _ k.excepts k.audits)) in
+    both_true _ _ (both_true _ _ k.sources (both_true _ _ templates (both_true _ _ k.autos jobs))) (both_true _ _ (both_true _ _ groups k.screens) (both_true _ _ k.excepts k.audits)) in
     both_true _ _ (both_true _ _ tree (both_true _ _ k.quotas tables))
     (both_true _ _ (both_true _ _ f.texts (both_true _ _ k.acts (both_true _ _ k.run_limit k.last_moment)))
     (both_true _ _ (none_waits R.quotas R.queue k.queue k.none) (nothing_left R.nodes R.queue R.unvisited k.queue k.unvisited)))
@@ -163,7 +170,9 @@ kept_valid K R v none =
     let templates = both (is_ascending template_number R.templates && nat_le (length R.templates) most_templates) (list_all is_template R.templates && names_differ template_name R.templates) t.templates in
     let template = both (list_all is_template R.templates) (names_differ template_name R.templates) templates.1 in
     let groups = both (is_ascending group_number R.groups && nat_le (length R.groups) most_groups) (list_all is_group R.groups && are_apart R.groups) t.groups in
-    let group = both (list_all is_group R.groups) (are_apart R.groups) groups.1 in (
+    let group = both (list_all is_group R.groups) (are_apart R.groups) groups.1 in
+    let jobs = both (is_ascending job_number R.jobs && nat_le (length R.jobs) most_jobs) (list_all (is_sound_job R.nodes) R.jobs && names_differ job_name R.jobs) t.jobs in
+    let job = both (list_all (is_sound_job R.nodes) R.jobs) (names_differ job_name R.jobs) jobs.1 in (
       record {
         templates = templates.0;
         each_template = template.0;
@@ -179,11 +188,12 @@ kept_valid K R v none =
         audits = t.audits;
         run_limit = le_test R.run_limit most_minutes v.run_limit;
         last_moment = le_test R.last_moment 4102444799 v.last_moment;
-        jobs = ap is_empty t.jobs;
+        jobs = jobs.0;
+        each_job = job.0;
         queue = ap is_empty (sym (ap (λ (Q : Rows). Q.queue) whole));
         unvisited = ap is_empty (sym (ap (λ (Q : Rows). Q.unvisited) whole));
       },
-      record { apart = group.1; differ = template.1; texts = le_test (object_texts R) most_text_bytes v.texts },
+      record { apart = group.1; differ = template.1; jobs_differ = job.1; texts = le_test (object_texts R) most_text_bytes v.texts },
     )
 
 -- both tests are one
@@ -205,7 +215,9 @@ judged_is K R = same_tests (is_judged K R) (is_restorable K R) forth back
         let tree = (both (is_tree K R.nodes) (are_quotas R.nodes R.quotas && are_tables R) (both _ _ parts.0).0).0 in
         both_true (is_tree K R.nodes) (are_kept R && are_fitting R) tree
         (both_true (are_kept R) (are_fitting R) (kept_joined R own.0)
-        (both_true (are_apart R.groups && names_differ template_name R.templates) (nat_le (object_texts R) most_text_bytes) (both_true (are_apart R.groups) (names_differ template_name R.templates) own.1.apart own.1.differ) own.1.texts))
+        (both_true (are_apart R.groups && (names_differ template_name R.templates && names_differ job_name R.jobs)) (nat_le (object_texts R) most_text_bytes)
+        (both_true (are_apart R.groups) (names_differ template_name R.templates && names_differ job_name R.jobs) own.1.apart
+        (both_true (names_differ template_name R.templates) (names_differ job_name R.jobs) own.1.differ own.1.jobs_differ)) own.1.texts))
 
 -- a test that fails
 pub no_tree : (K : Capacity) (R : Rows) → is_tree K R.nodes ≡ false → is_restorable K R ≡ false
@@ -221,7 +233,7 @@ not_fitting K R h = not_true (is_restorable K R) (λ t. clash (are_fitting R) (b
 restored_rows : (K : Capacity) (R : Rows) → Kept R → rows_of (restored (record { size = K; nodes = R.nodes }) R) ≡ R
 restored_rows K R k =
     ap (λ us. record (rows_of (restored (record { size = K; nodes = R.nodes }) R)) { unvisited = us }) (none_left R.nodes (idle_scans K).front refl ∙ sym (empty_is R.unvisited k.unvisited))
-    ∙ (ap (λ qs. record R { jobs = []; queue = qs }) (sym (empty_is R.queue k.queue)) ∙ ap (λ js. record R { jobs = js }) (sym (empty_is R.jobs k.jobs)))
+    ∙ ap (λ qs. record R { queue = qs }) (sym (empty_is R.queue k.queue))
 
 pub restored_seen : (K : Capacity) (R : Rows) → Kept R → machine_of (restored (record { size = K; nodes = R.nodes }) R) ≡ record { size = K; rows = R; waiting = [] }
 restored_seen K R k = ap (λ (Q : Rows). record { size = K; rows = Q; waiting = [] }) (restored_rows K R k)
@@ -320,17 +332,21 @@ alone_screens R h =
         (both_true (are_some_groups screen.groups) (are_screen_actions screen.actions) (some_numbers R.groups screen.groups lists.0) lists.1)
 
 -- the texts of all objects are those of the tables
-pub texts_same : (R : Rows) → are_kept R ≡ true → object_texts R ≡ (quota_texts R.quotas + screen_texts R.screens) + group_texts R.groups + (sum_by template_bytes R.templates + sum_by auto_bytes R.autos)
-texts_same R h =
-    let none : sum_by job_bytes R.jobs ≡ 0 = ap (sum_by job_bytes) (empty_is R.jobs (kept_parts R h).jobs) in
-    omega (arith, none)
+pub texts_same : (R : Rows) → object_texts R ≡ (quota_texts R.quotas + screen_texts R.screens + job_texts R.jobs) + group_texts R.groups + (sum_by template_bytes R.templates + sum_by auto_bytes R.autos)
+texts_same R = omega arith
+
+pub whole_jobs : (R : Rows) → are_kept R ≡ true → are_whole_jobs R.jobs ≡ true
+whole_jobs R h =
+    let k = kept_parts R h in
+    both_true (is_ascending job_number R.jobs && nat_le (length R.jobs) most_jobs) (list_all is_job R.jobs) k.jobs
+    (all_weaker (is_sound_job R.nodes) is_job R.jobs (λ job is. (both (is_folder R.nodes job.scope) (is_job job) is).1) k.each_job)
 
 -- each table's are no longer than all
-pub texts_fit : (R : Rows) → are_kept R ≡ true → are_fitting R ≡ true → (group_texts R.groups ≤ most_text_bytes) × (sum_by template_bytes R.templates ≤ most_text_bytes) × (sum_by auto_bytes R.autos ≤ most_text_bytes) × (quota_texts R.quotas ≤ most_text_bytes) × (screen_texts R.screens ≤ most_text_bytes)
+pub texts_fit : (R : Rows) → are_kept R ≡ true → are_fitting R ≡ true → (group_texts R.groups ≤ most_text_bytes) × (sum_by template_bytes R.templates ≤ most_text_bytes) × (sum_by auto_bytes R.autos ≤ most_text_bytes) × (quota_texts R.quotas ≤ most_text_bytes) × (screen_texts R.screens ≤ most_text_bytes) × (job_texts R.jobs ≤ most_text_bytes)
 texts_fit R h fits =
     let all = le_is (object_texts R) most_text_bytes (fitting_parts R fits).texts in
-    let same = texts_same R h in
-    (omega (arith, all, same), omega (arith, all, same), omega (arith, all, same), omega (arith, all, same), omega (arith, all, same))
+    let same = texts_same R in
+    (omega (arith, all, same), omega (arith, all, same), omega (arith, all, same), omega (arith, all, same), omega (arith, all, same), omega (arith, all, same))
 
-pub long_texts : (R : Rows) → are_kept R ≡ true → nat_le ((quota_texts R.quotas + screen_texts R.screens) + group_texts R.groups + (sum_by template_bytes R.templates + sum_by auto_bytes R.autos)) most_text_bytes ≡ false → are_fitting R ≡ false
-long_texts R h long = not_true (are_fitting R) (λ t. clash (nat_le (object_texts R) most_text_bytes) (fitting_parts R t).texts (ap (λ n. nat_le n most_text_bytes) (texts_same R h) ∙ long))
+pub long_texts : (R : Rows) → are_kept R ≡ true → nat_le ((quota_texts R.quotas + screen_texts R.screens + job_texts R.jobs) + group_texts R.groups + (sum_by template_bytes R.templates + sum_by auto_bytes R.autos)) most_text_bytes ≡ false → are_fitting R ≡ false
+long_texts R h long = not_true (are_fitting R) (λ t. clash (nat_le (object_texts R) most_text_bytes) (fitting_parts R t).texts (ap (λ n. nat_le n most_text_bytes) (texts_same R) ∙ long))

@@ -134,7 +134,7 @@ module _ (p new : Parts) (s : Course) (m n : ℕ) (f : Finishes (record p { scan
   finished_rows =
       let of : List ℕ → List ℕ → Rows = λ queue unvisited. record (rows_of p) { quotas = complete; queue = queue; unvisited = unvisited } in
       ap (λ (q : Parts). record (rows_of q) { quotas = complete }) f.completes.parts_are
-      ∙ (ap (λ (t : Tables). record (of f.scans.queue (left p.tree.nodes f.scans)) { screens = t.screens; excepts = t.excepts }) f.completes.objects_are
+      ∙ (ap (λ (t : Tables). record (of f.scans.queue (left p.tree.nodes f.scans)) { screens = t.screens; excepts = t.excepts; jobs = t.jobs }) f.completes.objects_are
       ∙ (ap (of f.scans.queue) f.turns.left_is
       ∙ ap (λ q. of q (if same_head s.queue q then left p.tree.nodes s else scan_begun p.tree.nodes q)) f.queue_is))
 

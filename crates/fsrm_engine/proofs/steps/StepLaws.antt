@@ -211,7 +211,7 @@ abbrev pub made_rows : Parts → List NodeRow → List QuotaRow → List ℕ →
 made_rows p nodes quotas queue unvisited =
     record (rows_of p) { nodes = nodes; quotas = quotas; queue = queue; unvisited = unvisited }
 
-pub followed_rows : (p mid : Parts) (effect : Rows) (quotas : List QuotaRow) (queue unvisited : List ℕ) → Keeps p mid → effect ≡ record (made_rows p mid.tree.nodes quotas queue unvisited) { screens = mid.objects.screens; excepts = mid.objects.excepts } → mid.scans.queue ≡ queue → left mid.tree.nodes mid.scans ≡ (if same_head p.scans.queue queue then unvisited else scan_begun mid.tree.nodes queue) → followed (rows_of p) effect ≡ record (rows_of mid) { quotas = quotas }
+pub followed_rows : (p mid : Parts) (effect : Rows) (quotas : List QuotaRow) (queue unvisited : List ℕ) → Keeps p mid → effect ≡ record (made_rows p mid.tree.nodes quotas queue unvisited) { screens = mid.objects.screens; excepts = mid.objects.excepts; jobs = mid.objects.jobs } → mid.scans.queue ≡ queue → left mid.tree.nodes mid.scans ≡ (if same_head p.scans.queue queue then unvisited else scan_begun mid.tree.nodes queue) → followed (rows_of p) effect ≡ record (rows_of mid) { quotas = quotas }
 followed_rows p mid effect quotas queue unvisited k made queue_is left_is =
     let nodes = mid.tree.nodes in
     let u = if same_head p.scans.queue queue then unvisited else scan_begun nodes queue in
@@ -224,6 +224,7 @@ followed_rows p mid effect quotas queue unvisited k made queue_is left_is =
       quotas = quotas;
       screens = mid.objects.screens;
       excepts = mid.objects.excepts;
+      jobs = mid.objects.jobs;
       audits = audit;
       acts = log;
       queue = q;

@@ -15,7 +15,7 @@ use Rattle.fsrm_model.specs.commands.Cost.{cost, deed_cost}
 use Rattle.fsrm_model.specs.meaning.Named.{IsNamed}
 use Rattle.fsrm_model.specs.commands.Step.{Stepped, step}
 use Rattle.fsrm_model.specs.store.Valid.{AreQuotas, IsValid}
-use Rattle.fsrm_model.proofs.commands.EachCommand.{named}
+use Rattle.fsrm_model.proofs.commands.EachCommand.{IsLegalReport, named}
 use Rattle.fsrm_model.proofs.commands.StepActs.{AreActs}
 use Rattle.fsrm_model.proofs.thresholds.DueLaws.{also}
 use Rattle.rescan.specs.Courses.{Scanning}
@@ -72,14 +72,14 @@ takes old new m deed answer does quotas acts =
     }
 
 -- What an answer names is there
-pub takes_named : (old new : Machine) (c : Command) (answer : Answer) → Takes old new (step old.size old.rows c) answer → IsValid old.size old.rows → IsNamed new.rows answer.outcome
-takes_named old new c answer t store =
+pub takes_named : (old new : Machine) (c : Command) (answer : Answer) → Takes old new (step old.size old.rows c) answer → IsValid old.size old.rows → IsLegalReport c.deed → IsNamed new.rows answer.outcome
+takes_named old new c answer t store legal =
     subst (λ (S : Rows). IsNamed S answer.outcome) (sym t.rows_are)
-    (subst (IsNamed (step old.size old.rows c).rows) (sym t.outcome_is) (named old.size old.rows c store))
+    (subst (IsNamed (step old.size old.rows c).rows) (sym t.outcome_is) (named old.size old.rows c store legal))
 
-pub result_named : (old new : Machine) (c : Command) (result : Result Answer Wanting) → IfOk result (λ answer. Takes old new (step old.size old.rows c) answer) → IsValid old.size old.rows → IfOk result (λ answer. IsNamed new.rows answer.outcome)
-result_named old new c (Ok answer) t store = takes_named old new c answer t store
-result_named old new c (Err e) t store = tt
+pub result_named : (old new : Machine) (c : Command) (result : Result Answer Wanting) → IfOk result (λ answer. Takes old new (step old.size old.rows c) answer) → IsValid old.size old.rows → IsLegalReport c.deed → IfOk result (λ answer. IsNamed new.rows answer.outcome)
+result_named old new c (Ok answer) t store legal = takes_named old new c answer t store legal
+result_named old new c (Err e) t store legal = tt
 
 -- What is known of the parts is known of the machine that is seen
 pub seen_takes : (old new : Parts) (seen : Machine) (c : Command) (answer : Answer) → machine_of old ≡ seen → Does old new c.moment c.deed answer → AreQuotas new.tree.nodes new.objects.quotas → AreActs (step_of old c.moment c.deed) → Takes seen (machine_of new) (step seen.size seen.rows c) answer

@@ -59,7 +59,7 @@ module _ (p : Parts) (groups : List GroupRow) (tables : Tables) (w : IsWhole p) 
   retabled_ended new m ends counted = sound_ended (retabled p groups tables) new m ends counted w.sound.scanning
 
   -- a command that makes them is done, if no check refuses it
-  pub retabled_as : (new : Parts) (m : ℕ) (deed : Deed) (answer : Answer) → IsIdle p → p.last_moment ≤ m → due p m deed ≡ None → (asked p m deed).effect ≡ record (rows_of p) { groups = groups; screens = tables.screens; excepts = tables.excepts } → (asked p m deed).lasts ≡ true → (asked p m deed).judged ≡ None → new ≡ ended (retabled p groups tables) m → answer ≡ record { outcome = (asked p m deed).outcome; lasting = true } → Does p new m deed answer
+  pub retabled_as : (new : Parts) (m : ℕ) (deed : Deed) (answer : Answer) → IsIdle p → p.last_moment ≤ m → due p m deed ≡ None → (asked p m deed).effect ≡ record (rows_of p) { groups = groups; screens = tables.screens; excepts = tables.excepts; jobs = tables.jobs } → (asked p m deed).lasts ≡ true → (asked p m deed).judged ≡ None → new ≡ ended (retabled p groups tables) m → answer ≡ record { outcome = (asked p m deed).outcome; lasting = true } → Does p new m deed answer
   retabled_as new m deed answer idle after none effect lasts judged ends e =
       let mid = retabled p groups tables in
       done_as p mid new m deed answer
@@ -70,7 +70,7 @@ module _ (p : Parts) (groups : List GroupRow) (tables : Tables) (w : IsWhole p) 
         lasts = lasts;
         size = refl;
         idle = record { numbers = idle.numbers; places = idle.places; crossing = idle.crossing };
-        made = ap (followed (rows_of p)) effect ∙ followed_own (record (rows_of p) { groups = groups; screens = tables.screens; excepts = tables.excepts });
+        made = ap (followed (rows_of p)) effect ∙ followed_own (record (rows_of p) { groups = groups; screens = tables.screens; excepts = tables.excepts; jobs = tables.jobs });
         raised = ap (map (peaked p.tree.size p.tree.nodes m)) same;
       })
       judged (few_log p w) (calm_same p mid m w.sound.counted retabled_counted refl same refl) ends e

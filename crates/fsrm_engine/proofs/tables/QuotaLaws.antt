@@ -87,7 +87,7 @@ changed_as p m quota deed path c tables idle after on is set =
       made = followed_rows p mid (asked p m deed).effect tables.quotas p.scans.queue R.unvisited kept
           (ap (λ w. w.effect) is
           ∙ (ap (λ k. record R { quotas = with_change folder_of k c p.objects.quotas }) (target_is R.nodes path quota.folder on.at.resolved)
-          ∙ ap (λ (t : Tables). record R { quotas = t.quotas; screens = t.screens; excepts = t.excepts }) (sym set)))
+          ∙ ap (λ (t : Tables). record R { quotas = t.quotas; screens = t.screens; excepts = t.excepts; jobs = t.jobs }) (sym set)))
           refl (sym (ap (λ b. if b then left p.tree.nodes p.scans else scan_begun p.tree.nodes p.scans.queue) (same_own p.scans.queue)));
       raised = refl;
     }

@@ -35,7 +35,7 @@ use Rattle.fsrm_objects.specs.declared.answer.ObjectFault.{ObjectFault}
 use Rattle.fsrm_objects.specs.declared.answer.ObjectFault.TheVariants as object
 use Rattle.file_groups.specs.Kept.{group_texts}
 use Rattle.templates.specs.Held.{texts_in as template_texts}
-use Rattle.fsrm_objects.specs.Tables.{IsFault, is_short, other_fault, quota_fault, quota_texts, screen_texts}
+use Rattle.fsrm_objects.specs.Tables.{IsFault, is_short, other_fault, job_texts, quota_fault, quota_texts, screen_texts}
 use Rattle.fsrm_engine.specs.declared.parts.Parts.{Parts}
 use Rattle.fsrm_engine.specs.Faults.{table_answer, table_refusal, text_room, texts_of}
 use Rattle.fsrm_engine.specs.Machine.{Does, IsIdle, IsWhole, rows_of}
@@ -78,7 +78,7 @@ legal_thresholds thresholds ascending short each =
 -- ---- room for texts
 -- all texts but those of quotas
 abbrev other_texts : Parts → ℕ
-other_texts p = (screen_texts p.objects.screens + group_texts p.groups) + template_texts p.templates
+other_texts p = ((screen_texts p.objects.screens + job_texts p.objects.jobs) + group_texts p.groups) + template_texts p.templates
 
 all_texts : (p : Parts) (quotas : List QuotaRow) → object_texts (record (rows_of p) { quotas = quotas }) ≡ quota_texts quotas + other_texts p
 all_texts p quotas = omega arith
@@ -186,6 +186,7 @@ module _ (p : Parts) (m : ℕ) (given : QuotaChange) (q : QuotaRow) (at : IsQuot
 table_bare : (fault : ObjectFault) (r : Refusal) → table_refusal fault ≡ Some r → is_bare r ≡ true
 table_bare object.AlreadyExists r h = cc h
 table_bare object.InvalidCombination r h = cc h
+table_bare object.DuplicateName r h = cc h
 table_bare object.OutOfRange r h = cc h
 table_bare object.TableFull r h = cc h
 table_bare object.TextsFull r h = cc h
@@ -194,6 +195,7 @@ table_bare object.NoMemory r h = cc h
 pub fault_refusal : (fault : ObjectFault) (o : Option ObjectFault) → IsFault fault o → option_and_then table_refusal o ≡ table_refusal fault
 fault_refusal object.AlreadyExists o h = ap (option_and_then table_refusal) h
 fault_refusal object.InvalidCombination o h = ap (option_and_then table_refusal) h
+fault_refusal object.DuplicateName o h = ap (option_and_then table_refusal) h
 fault_refusal object.OutOfRange o h = ap (option_and_then table_refusal) h
 fault_refusal object.TableFull o h = ap (option_and_then table_refusal) h
 fault_refusal object.TextsFull o h = ap (option_and_then table_refusal) h

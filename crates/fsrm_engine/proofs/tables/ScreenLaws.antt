@@ -50,7 +50,7 @@ use Rattle.fsrm_model.proofs.thresholds.ThresholdLaws.{kept_by_all}
 use Rattle.fsrm_model.proofs.valid.ScreensKept.{IsScreen, all_weaker, screen_at, table_parts}
 use Rattle.fsrm_objects.specs.declared.answer.ObjectFault.{ObjectFault}
 use Rattle.fsrm_objects.specs.declared.answer.ObjectFault.TheVariants as object
-use Rattle.fsrm_objects.specs.Tables.{IsFault, Tables, except_fault, has_short_actions, is_short, other_screen_fault, screen_bytes, screen_fault, screen_texts, screen_texts_at, quota_texts, with_except, with_other_screen, with_screen, without_except, without_screen}
+use Rattle.fsrm_objects.specs.Tables.{IsFault, Tables, except_fault, has_short_actions, is_short, job_texts, other_screen_fault, screen_bytes, screen_fault, screen_texts, screen_texts_at, quota_texts, with_except, with_other_screen, with_screen, without_except, without_screen}
 use Rattle.fsrm_engine.specs.declared.parts.Parts.{Parts}
 use Rattle.fsrm_engine.specs.Faults.{table_answer, table_refusal, text_room, texts_of}
 use Rattle.fsrm_engine.specs.Machine.{Does, IsIdle, IsWhole, ended, rows_of}
@@ -154,7 +154,7 @@ found_own screens n screen found = subst (λ (k : ℕ). row_of screen_folder k s
 
 -- ---- what the tables refuse
 -- the answer to a command that they refused, if it wasn't for want of memory
-refused_by : (p : Parts) (m : ℕ) (deed : Deed) (tables : Tables) (fault : ObjectFault) (o : Option ObjectFault) (result : Result Answer Wanting) → IsIdle p → p.last_moment ≤ m → due p m deed ≡ option_and_then table_refusal o → IsFault fault o → tables ≡ p.objects → IfOk result (λ answer. table_answer fault ≡ Some answer) → IfOk result (λ answer. Does p (record p { objects = tables }) m deed answer)
+pub refused_by : (p : Parts) (m : ℕ) (deed : Deed) (tables : Tables) (fault : ObjectFault) (o : Option ObjectFault) (result : Result Answer Wanting) → IsIdle p → p.last_moment ≤ m → due p m deed ≡ option_and_then table_refusal o → IsFault fault o → tables ≡ p.objects → IfOk result (λ answer. table_answer fault ≡ Some answer) → IfOk result (λ answer. Does p (record p { objects = tables }) m deed answer)
 refused_by p m deed tables fault o result idle after h is same given =
     subst (λ (t : Tables). IfOk result (λ answer. Does p (record p { objects = t }) m deed answer)) (sym same)
     (refused_for_as p m deed fault result idle after (h ∙ fault_refusal fault o is) given)
@@ -227,7 +227,7 @@ module _ (p : Parts) (m : ℕ) (values : NewScreen) (n : ℕ) (at : IsFolder p.t
         full : nat_lt most_screens (length (after n).screens) ≡ nat_le most_screens (length p.objects.screens)
         full = full_test most_screens (length p.objects.screens) (length (after n).screens) (length-with_row screen_folder (row_at n) p.objects.screens)
 
-        all_texts : (screens : List ScreenRow) → object_texts (record (rows_of p) { screens = screens }) ≡ screen_texts screens + ((quota_texts p.objects.quotas + group_texts p.groups) + template_texts p.templates)
+        all_texts : (screens : List ScreenRow) → object_texts (record (rows_of p) { screens = screens }) ≡ screen_texts screens + ((quota_texts p.objects.quotas + job_texts p.objects.jobs + group_texts p.groups) + template_texts p.templates)
         all_texts screens = omega arith
 
         bytes : nat_lt most_text_bytes (object_texts (after n)) ≡ nat_lt (text_room p) (screen_bytes (row_at n))
@@ -263,7 +263,7 @@ module _ (p : Parts) (m : ℕ) (values : NewScreen) (n : ℕ) (at : IsFolder p.t
               retabled_as p p.groups tables w (ap (λ (t : Tables). t.quotas) made) new m deed answer idle in_time (add_is ∙ ap (option_and_then table_refusal) may)
               (ap after (target_is p.tree.nodes values.path n at.resolved)
               ∙ (ap (λ (r : ScreenRow). record (rows_of p) { screens = with_row screen_folder r p.objects.screens }) (sym is)
-              ∙ ap (λ (t : Tables). record (rows_of p) { screens = t.screens; excepts = t.excepts }) (sym made))) refl refl ends e
+              ∙ ap (λ (t : Tables). record (rows_of p) { screens = t.screens; excepts = t.excepts; jobs = t.jobs }) (sym made))) refl refl ends e
 
           pub screen_unadded : (fault : ObjectFault) (result : Result Answer Wanting) → IsFault fault (screen_fault p.objects row room) → tables ≡ p.objects → IfOk result (λ answer. table_answer fault ≡ Some answer) → IfOk result (λ answer. Does p (record p { objects = tables }) m deed answer)
           screen_unadded fault result due_is same told = refused_by p m deed tables fault _ result idle in_time add_is due_is same told
@@ -346,7 +346,7 @@ module _ (p : Parts) (m : ℕ) (values : ScreenChange) (old : ScreenRow) (at : I
           (ap (λ k. record R { screens = with_change screen_folder k (rescreened values.active (changed (groups_of R k))) R.screens }) (target_is p.tree.nodes values.path old.folder at.resolved)
           ∙ (ap (λ o. record R { screens = with_change screen_folder old.folder (rescreened values.active (changed (option_map_or (λ (screen : ScreenRow). screen.groups) o []))) R.screens }) found
           ∙ (ap (λ (screens : List ScreenRow). record R { screens = screens }) (sym put_is)
-          ∙ ap (λ (t : Tables). record R { screens = t.screens; excepts = t.excepts }) (sym made)))) refl refl ends e
+          ∙ ap (λ (t : Tables). record R { screens = t.screens; excepts = t.excepts; jobs = t.jobs }) (sym made)))) refl refl ends e
 
       pub screen_unchanged : (fault : ObjectFault) (result : Result Answer Wanting) → other_screen_fault p.objects row room ≡ Some fault → tables ≡ p.objects → IfOk result (λ answer. table_answer fault ≡ Some answer) → IfOk result (λ answer. Does p (record p { objects = tables }) m change answer)
       screen_unchanged fault result due_is same given =
@@ -359,7 +359,7 @@ screen_deleted p new m path screen tables answer w idle after at found made ends
     let R = rows_of p in
     retabled_as p p.groups tables w (ap (λ (t : Tables). t.quotas) made) new m (Screen (ScreenDelete path)) answer idle after (screen_due R path screen at found)
     (ap (λ k. record R { screens = without_row screen_folder k R.screens }) (target_is p.tree.nodes path screen.folder at.resolved)
-    ∙ ap (λ (t : Tables). record R { screens = t.screens; excepts = t.excepts }) (sym made)) refl refl ends e
+    ∙ ap (λ (t : Tables). record R { screens = t.screens; excepts = t.excepts; jobs = t.jobs }) (sym made)) refl refl ends e
 
 -- ---- a new exception
 module _ (p : Parts) (m : ℕ) (values : NewException) (n : ℕ) (at : IsFolder p.tree.nodes values.path n) where
@@ -417,7 +417,7 @@ module _ (p : Parts) (m : ℕ) (values : NewException) (n : ℕ) (at : IsFolder 
               retabled_as p p.groups tables w (ap (λ (t : Tables). t.quotas) made) new m adding answer idle in_time (adding_is ∙ ap (option_and_then table_refusal) may)
               (ap excepted (target_is p.tree.nodes values.path n at.resolved)
               ∙ (ap (λ (r : ExceptRow). record (rows_of p) { excepts = with_row except_folder r p.objects.excepts }) (sym is)
-              ∙ ap (λ (t : Tables). record (rows_of p) { screens = t.screens; excepts = t.excepts }) (sym made))) refl refl ends e
+              ∙ ap (λ (t : Tables). record (rows_of p) { screens = t.screens; excepts = t.excepts; jobs = t.jobs }) (sym made))) refl refl ends e
 
           pub except_unadded : (fault : ObjectFault) (result : Result Answer Wanting) → IsFault fault (except_fault p.objects row) → tables ≡ p.objects → IfOk result (λ answer. table_answer fault ≡ Some answer) → IfOk result (λ answer. Does p (record p { objects = tables }) m adding answer)
           except_unadded fault result due_is same told = refused_by p m adding tables fault _ result idle in_time adding_is due_is same told
@@ -434,4 +434,4 @@ module _ (p : Parts) (m : ℕ) (path : List (List ℕ)) (n : ℕ) (at : IsFolder
       let R = rows_of p in
       retabled_as p p.groups tables w (ap (λ (t : Tables). t.quotas) made) new m (Exception (ExceptionDelete path)) answer idle after (except_due false there_is)
       (ap (λ k. record R { excepts = without_row except_folder k R.excepts }) (target_is p.tree.nodes path n at.resolved)
-      ∙ ap (λ (t : Tables). record R { screens = t.screens; excepts = t.excepts }) (sym made)) refl refl ends e
+      ∙ ap (λ (t : Tables). record R { screens = t.screens; excepts = t.excepts; jobs = t.jobs }) (sym made)) refl refl ends e

@@ -38,7 +38,7 @@ use Rattle.fsrm_model.proofs.thresholds.ThresholdLaws.{changed_kept}
 use Rattle.fsrm_model.proofs.thresholds.UnrunKept.{changed_unrun}
 use Rattle.fsrm_model.proofs.valid.QuotasKept.{IsQuota, quotas-map}
 use Rattle.fsrm_model.proofs.valid.TemplatesKept.{template_joined}
-use Rattle.fsrm_objects.specs.Tables.{quota_texts, screen_texts}
+use Rattle.fsrm_objects.specs.Tables.{job_texts, quota_texts, screen_texts}
 use Rattle.quota_usage.specs.declared.change.Counter.{Counter}
 use Rattle.templates.specs.declared.answer.TemplateFault.{TemplateFault}
 use Rattle.templates.specs.declared.answer.TemplateFault.TheVariants as template
@@ -132,7 +132,7 @@ refused_by p m deed held fault o (Ok answer) idle after h is same given =
 
 -- all texts, with those of other templates and quotas
 abbrev pub rest_texts : Parts → ℕ
-rest_texts p = (screen_texts p.objects.screens + group_texts p.groups) + sum_by auto_bytes p.templates.autos
+rest_texts p = ((screen_texts p.objects.screens + job_texts p.objects.jobs) + group_texts p.groups) + sum_by auto_bytes p.templates.autos
 
 pub all_texts : (p : Parts) (templates : List TemplateRow) (quotas : List QuotaRow) → object_texts (record (rows_of p) { templates = templates; quotas = quotas }) ≡ (quota_texts quotas + sum_by template_bytes templates) + rest_texts p
 all_texts p templates quotas = omega arith

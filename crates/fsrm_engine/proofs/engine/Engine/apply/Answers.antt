@@ -4,7 +4,7 @@ use Rattle.fsrm_base.proofs.TestLaws.{both, le_is}
 use Rattle.fsrm_model.specs.values.Limits.{latest_moment}
 use Rattle.fsrm_model.specs.store.Valid.{is_moment}
 use Rattle.fsrm_model.specs.store.Valued.{is_deed, is_short}
-use Rattle.fsrm_model.proofs.commands.EachCommand.{step_acts}
+use Rattle.fsrm_model.proofs.commands.EachCommand.{legal_report, step_acts}
 use Rattle.fsrm_engine.specs.Machine.{Machine, machine_of, rows_of}
 use Rattle.fsrm_engine.specs.Memory.{may_want_memory}
 use Rattle.fsrm_engine.proofs.steps.WholeLaws.{result_named, seen_cost, seen_err, seen_idle, seen_ok}
@@ -30,9 +30,11 @@ returns-clause-ok g c =
 pub returns-clause-named : goal.returns-clause-named
 returns-clause-named g c =
     let p = c.self.inside.parts in
+    let command = c.args.command.now in
     result_named (machine_of p) (machine_of c.take.new.self) c.args.command.now c.take.result
     (seen_ok p c.take.new.self (machine_of p) c.args.command.now c.take.result refl c.take.ensures.ok c.take.ensures.whole.valid.quotas
     (step_acts p.tree.size (rows_of p) c.args.command.now c.self.invariant.valid c.requires.valid)) c.self.invariant.valid
+    (legal_report command.deed (both (is_deed command.deed) (is_short command.deed) (both (is_moment command.moment) (is_deed command.deed && is_short command.deed) c.requires.valid).1).0)
 
 pub returns-clause-memory : goal.returns-clause-memory
 returns-clause-memory g c =

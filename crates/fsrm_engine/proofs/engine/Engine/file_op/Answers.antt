@@ -30,7 +30,7 @@ returns-clause-named g c =
     let command : Command = record { moment = c.args.moment; deed = File c.args.op.now } in
     result_named (machine_of p) (machine_of c.file_op.new.self) command c.file_op.result
     (seen_ok p c.file_op.new.self (machine_of p) command c.file_op.result refl c.file_op.ensures.ok c.file_op.ensures.whole.valid.quotas
-    (deed_acts p.tree.size (rows_of p) c.args.moment (File c.args.op.now) c.self.invariant.valid c.requires.moment c.requires.valid)) c.self.invariant.valid
+    (deed_acts p.tree.size (rows_of p) c.args.moment (File c.args.op.now) c.self.invariant.valid c.requires.moment c.requires.valid)) c.self.invariant.valid tt
 
 pub returns-clause-memory : goal.returns-clause-memory
 returns-clause-memory g c =

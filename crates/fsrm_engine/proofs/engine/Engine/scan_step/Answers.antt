@@ -40,7 +40,7 @@ returns-clause-named g c =
     takes_named (machine_of p) (machine_of c.go_on.new.self) command c.go_on.result
     (seen_takes p c.go_on.new.self (machine_of p) command c.go_on.result refl c.go_on.ensures.ok (invariant_of-self g c).valid.quotas
     (kept_acts p.tree.size (rows_of p) c.args.moment (Step c.args.n) c.self.invariant.valid c.requires.moment (unjudged_named p.tree.size (rows_of p) (step_work p.tree.size (rows_of p) c.args.n) refl) (step_kept p.tree.size (rows_of p) c.args.n)))
-    c.self.invariant.valid
+    c.self.invariant.valid tt
 
 pub returns-clause-kept : goal.returns-clause-kept
 returns-clause-kept g c = (invariant_of-self g c).valid

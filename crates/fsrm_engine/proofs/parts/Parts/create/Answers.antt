@@ -137,7 +137,7 @@ returns-clause-ok g c =
       idle = record { numbers = c.requires.ready.idle.numbers; places = c.requires.ready.idle.places; crossing = c.requires.ready.idle.crossing };
       made = op_made p mid c.args.moment op p.objects.quotas _
           (ap (λ (w : Volume). w.nodes) (sym (c.make_file-node.ensures.made ∙ made_is p.tree _ _ _ false c.args.length c.args.owner c.args.moment at)))
-          (record { quotas_are = refl; screens_are = refl; excepts_are = refl; autos_are = refl }) refl (λ k. left_back p w c.make_file-node.result made.back)
+          (record { quotas_are = refl; screens_are = refl; excepts_are = refl; jobs_are = refl; autos_are = refl }) refl (λ k. left_back p w c.make_file-node.result made.back)
           c.follow_create.ensures.follows (record { size = size; marks = refl; crossing = refl; groups = refl; templates = refl; audit = refl; run_limit = refl; last_moment = refl });
     })
     (few_log p c.requires.ready.whole) c.end_named.ensures.ended done.raised_are (charged_due p w c.follow_create.new.self change c.args.moment size e done.engine)

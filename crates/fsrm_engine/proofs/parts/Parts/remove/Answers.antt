@@ -1,10 +1,12 @@
 use Rattle.std.proofs.Common.{None, refl, ap, sym, ◌∙◌, arith}
+use Rattle.std.specs.Prelude.{filter}
 use Rattle.fsrm_model.specs.declared.command.Deed.TheVariants.{File}
 use Rattle.fsrm_model.specs.declared.command.FileOp.TheVariants.{Remove}
 use Rattle.fsrm_model.specs.nodes.FileOps.{plain}
 use Rattle.fsrm_model.specs.objects.AutoApply.{auto_folder}
 use Rattle.fsrm_base.specs.Keyed.{without_row}
 use Rattle.fsrm_base.proofs.TestLaws.{is_inner}
+use Rattle.fsrm_model.specs.objects.Jobs.{is_elsewhere}
 use Rattle.fsrm_model.specs.objects.Quota.{folder_of}
 use Rattle.fsrm_model.specs.objects.Screens.{screen_folder, except_folder}
 use Rattle.fsrm_model.specs.nodes.Tree.{number}
@@ -17,7 +19,7 @@ use Rattle.fsrm_engine.proofs.operations.RemoveLaws.{remove_due, remove_root}
 use Rattle.fsrm_engine.proofs.operations.GoingLaws.{no_fault, goes_well}
 use Rattle.fsrm_engine.proofs.steps.StepLaws.{done_as, refused_as, tree_first}
 use Rattle.fsrm_engine.proofs.operations.FollowLaws.{goes_to, volume_is, shown_length, when_ok, file_absent, remove_queue, remove_next, op_accepts}
-use Rattle.fsrm_engine.proofs.operations.GoneLaws.{calm_gone, no_auto, no_except, no_screen}
+use Rattle.fsrm_engine.proofs.operations.GoneLaws.{calm_gone, no_auto, no_except, no_job, no_screen}
 use Rattle.fsrm_engine.proofs.settling.EndLaws.{few_log}
 use Rattle.fsrm_engine.proofs.steps.WholeLaws.{sound_ended}
 use Rattle.fsrm_engine.proofs.parts.Parts.remove.Goals as goal
@@ -98,6 +100,7 @@ returns-clause-ok g c =
       quotas_are = ap (λ n. without_row folder_of n p.objects.quotas) to ∙ goes.no_quota;
       screens_are = ap (λ n. without_row screen_folder n p.objects.screens) to ∙ no_screen p n c.requires.ready.whole file;
       excepts_are = ap (λ n. without_row except_folder n p.objects.excepts) to ∙ no_except p n c.requires.ready.whole file;
+      jobs_are = ap (λ n. filter (is_elsewhere n) p.objects.jobs) to ∙ no_job p n c.requires.ready.whole file;
       autos_are = ap (λ n. without_row auto_folder n p.templates.autos) to ∙ no_auto p n c.requires.ready.whole file;
     })
     (remove_queue p c.args.moment c.args.path.now n at ∙ file_absent p.tree p.scans n c.requires.ready.whole.sound.scanning file)

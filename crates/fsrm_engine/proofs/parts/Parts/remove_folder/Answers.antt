@@ -2,7 +2,7 @@ use Rattle.std.proofs.Common.{◌≡◌, None, refl, ap, ◌∙◌, arith}
 use Rattle.fsrm_model.specs.declared.command.Deed.TheVariants.{File}
 use Rattle.fsrm_model.specs.declared.command.FileOp.TheVariants.{Remove}
 use Rattle.fsrm_model.proofs.nodes.Keeps.{folder_found}
-use Rattle.fsrm_objects.specs.Tables.{Tables, without_except, without_screen}
+use Rattle.fsrm_objects.specs.Tables.{Tables, without_except, without_jobs, without_screen}
 use Rattle.volume_tree.specs.Volume.{Volume}
 use Rattle.fsrm_engine.specs.declared.parts.Parts.{Parts}
 use Rattle.fsrm_engine.proofs.operations.IdleLaws.{may_go, idle_gone}
@@ -24,8 +24,8 @@ done-requires-clause-counted g c =
     let p = c.args.self.now in
     let e = c.requires.ready.whole.sound.counted in
     let may = may_go p.tree c.args.node c.requires.inner (has_resolved _ _ _ _ e.volume c.requires.resolved) (when_ok _ _ c.unwrap.ensures c.remove.ensures.may) in
-    let objects : c.drop_screens.new.objects ≡ without_objects p.objects c.args.node = c.drop_screens.ensures ∙ ap (λ (t : Tables). without_except (without_screen t c.args.node) c.args.node) c.drop_quota.ensures.objects in
-    idle_gone p.tree c.remove.new.self p.objects.quotas c.drop_screens.new.objects.quotas p.usage c.drop_quota.new.usage c.args.node e may
+    let objects : c.drop_jobs.new.self ≡ without_objects p.objects c.args.node = c.drop_jobs.ensures ∙ ap (λ (t : Tables). without_jobs t c.args.node) (c.drop_screens.ensures ∙ ap (λ (t : Tables). without_except (without_screen t c.args.node) c.args.node) c.drop_quota.ensures.objects) in
+    idle_gone p.tree c.remove.new.self p.objects.quotas c.drop_jobs.new.self.quotas p.usage c.drop_quota.new.usage c.args.node e may
     c.requires.kind (when_ok _ _ c.unwrap.ensures c.remove.ensures.made) c.remove.ensures.kept (ap (λ (t : Tables). t.quotas) objects) c.drop_quota.ensures.usage
 
 pub returns-clause-ok : goal.returns-clause-ok
@@ -38,10 +38,10 @@ returns-clause-ok g c =
     let goes = goes_to _ _ c.remove.new.self _ _ made (c.follow_rmdir.ensures.follows (volume_is _ _ made c.remove.ensures.kept)) in
     let absent = left_queue c.args.node p.scans.queue c.leave.new.self.queue c.leave.ensures.queue in
     let row = folder_found p.tree.nodes c.args.node c.requires.kind in
-    let mid : Parts = record p { tree = c.remove.new.self; scans = c.follow_rmdir.new.self; usage = c.drop_quota.new.usage; objects = c.drop_screens.new.objects; templates = c.drop_auto.new.templates } in
+    let mid : Parts = record p { tree = c.remove.new.self; scans = c.follow_rmdir.new.self; usage = c.drop_quota.new.usage; objects = c.drop_jobs.new.self; templates = c.drop_auto.new.templates } in
     let size = ap (λ (w : Volume). w.size) made in
     let may = may_go p.tree c.args.node c.requires.inner (has_resolved _ _ _ _ k at) (when_ok _ _ c.unwrap.ensures c.remove.ensures.may) in
-    let objects : c.drop_screens.new.objects ≡ without_objects p.objects c.args.node = c.drop_screens.ensures ∙ ap (λ (t : Tables). without_except (without_screen t c.args.node) c.args.node) c.drop_quota.ensures.objects in
+    let objects : c.drop_jobs.new.self ≡ without_objects p.objects c.args.node = c.drop_jobs.ensures ∙ ap (λ (t : Tables). without_jobs t c.args.node) (c.drop_screens.ensures ∙ ap (λ (t : Tables). without_except (without_screen t c.args.node) c.args.node) c.drop_quota.ensures.objects) in
     let quotas = ap (λ (t : Tables). t.quotas) objects in
     done_as p mid c.done.new.self c.args.moment (File (Remove c.args.path.now)) c.done.result
     (rmdir_accepts p mid c.leave.new.self c.args.moment c.args.path.now c.args.node c.requires.ready.idle c.requires.ready.after
@@ -49,7 +49,7 @@ returns-clause-ok g c =
     at made objects c.leave.ensures.queue turns goes
     (next_without p.tree c.remove.new.self c.leave.new.self c.args.node row.row turns.scanning absent made c.remove.ensures.kept row.found row.folder)
     (record { size = size; marks = refl; crossing = refl; groups = refl; templates = c.drop_auto.ensures; audit = refl; run_limit = refl; last_moment = refl }))
-    refl (few_log p c.requires.ready.whole) (calm_without p mid c.args.moment c.args.node c.requires.ready.whole.sound.counted (idle_gone p.tree c.remove.new.self p.objects.quotas c.drop_screens.new.objects.quotas p.usage c.drop_quota.new.usage c.args.node c.requires.ready.whole.sound.counted may c.requires.kind made c.remove.ensures.kept quotas c.drop_quota.ensures.usage) size quotas c.drop_quota.ensures.usage)
+    refl (few_log p c.requires.ready.whole) (calm_without p mid c.args.moment c.args.node c.requires.ready.whole.sound.counted (idle_gone p.tree c.remove.new.self p.objects.quotas c.drop_jobs.new.self.quotas p.usage c.drop_quota.new.usage c.args.node c.requires.ready.whole.sound.counted may c.requires.kind made c.remove.ensures.kept quotas c.drop_quota.ensures.usage) size quotas c.drop_quota.ensures.usage)
     c.done.ensures.ended c.done.ensures.answer
 
 pub returns-clause-sound : goal.returns-clause-sound
@@ -57,7 +57,7 @@ returns-clause-sound g c =
     let p = c.args.self.now in
     let made = when_ok _ _ c.unwrap.ensures c.remove.ensures.made in
     let goes = goes_to _ _ c.remove.new.self _ _ made (c.follow_rmdir.ensures.follows (volume_is _ _ made c.remove.ensures.kept)) in
-    sound_ended (record p { tree = c.remove.new.self; scans = c.follow_rmdir.new.self; usage = c.drop_quota.new.usage; objects = c.drop_screens.new.objects; templates = c.drop_auto.new.templates }) c.done.new.self c.args.moment c.done.ensures.ended c.done.ensures.counted goes.scanning
+    sound_ended (record p { tree = c.remove.new.self; scans = c.follow_rmdir.new.self; usage = c.drop_quota.new.usage; objects = c.drop_jobs.new.self; templates = c.drop_auto.new.templates }) c.done.new.self c.args.moment c.done.ensures.ended c.done.ensures.counted goes.scanning
 
 pub unwrap-requires : goal.unwrap-requires
 unwrap-requires g c = goes_well c.args.self.now.tree c.args.node c.remove.result (no_fault c.args.self.now.tree c.args.node (omega (arith, c.child_count.ensures.value, c.if-child_count-gt0.false))) c.remove.ensures.refused

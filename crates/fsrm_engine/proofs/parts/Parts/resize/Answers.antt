@@ -120,7 +120,7 @@ returns-clause-ok g c =
     (op_accepts p mid c.args.moment (Resize c.args.path.now c.args.length) p.objects.quotas _ c.requires.ready.idle c.requires.ready.after
     (resize_due p c.args.moment c.args.path.now c.in-Some.file c.args.length e.volume f ∙ by_quotas p _ _ _ e changes (ap (option_map exceeded_refusal) c.in_default-admit.ensures.ok))
     (ap (λ n. with_change number n (resized c.args.length c.args.moment) p.tree.nodes) (target_is p.tree.nodes c.args.path.now _ f.resolved) ∙ sym (ap (λ (u : Volume). u.nodes) made))
-    (record { quotas_are = refl; screens_are = refl; excepts_are = refl; autos_are = refl }) refl (λ k. refl)
+    (record { quotas_are = refl; screens_are = refl; excepts_are = refl; jobs_are = refl; autos_are = refl }) refl (λ k. refl)
     (goes_to _ _ w _ _ made (c.follow_resize.ensures.follows c.args.moment (volume_is _ _ made c.resize.ensures.kept)))
     (record { size = size; marks = refl; crossing = refl; groups = refl; templates = refl; audit = refl; run_limit = refl; last_moment = refl }) d.raised_are)
     refl c.charge.ensures.charged (charged_due p w c.follow_resize.new.self change c.args.moment size e d.engine) c.done.ensures.ended c.done.ensures.answer

@@ -32,7 +32,7 @@ returns-clause-ok g c =
     (op_accepts p mid c.args.moment (Touch c.args.path.now) p.objects.quotas _ c.requires.ready.idle c.requires.ready.after
     (touch_due p c.args.moment _ _ f)
     (ap (λ n. with_change number n (touched c.args.moment) p.tree.nodes) (target_is p.tree.nodes c.args.path.now _ f.resolved) ∙ sym (ap (λ (w : Volume). w.nodes) made))
-    (record { quotas_are = refl; screens_are = refl; excepts_are = refl; autos_are = refl }) refl (λ k. refl)
+    (record { quotas_are = refl; screens_are = refl; excepts_are = refl; jobs_are = refl; autos_are = refl }) refl (λ k. refl)
     (goes_to _ _ c.touch.new.self _ _ made (touch_goes p.tree p.scans _ c.args.moment c.requires.ready.whole.sound.scanning (volume_is _ _ made c.touch.ensures.kept)))
     (record { size = size; marks = refl; crossing = refl; groups = refl; templates = refl; audit = refl; run_limit = refl; last_moment = refl }) refl)
     refl (few_log p c.requires.ready.whole) (calm_same p mid c.args.moment c.requires.ready.whole.sound.counted (idle_touched p.tree c.touch.new.self p.objects.quotas p.usage c.in-Some.file.number c.args.moment c.requires.ready.whole.sound.counted f.there made c.touch.ensures.kept) size refl refl)
