@@ -13,3 +13,4 @@ pub mod Taken
 pub mod CommaLaws
 pub mod PatternLaws
 pub mod NeededOptions
+pub mod ReportOptions

@@ -4,5 +4,6 @@ pub mod Taking
 pub mod OptionWords
 pub mod KeptLaws
 pub mod PathOption
+pub mod TaskOption
 pub mod ActionParts
 pub mod Numerals

@@ -2,12 +2,12 @@
 
 ghost use Rattle.std.specs.Prelude.{◌≡◌, Ok, Some};
 ghost use Rattle.fsrm_model.specs.lines.Line.{mkdir_words, create_words, resize_words, touch_words, move_words, remove_words, usage_words, step_words, readers, deed_words, tool_words};
-ghost use Rattle.fsrm_model.specs.lines.Tools.{dirquota, filescrn, tools};
+ghost use Rattle.fsrm_model.specs.lines.Tools.{dirquota, filescrn, storrept, tools};
 ghost use Rattle.tool_commands.specs.LineFaults.{ReadsWords, at_moment};
 ghost use Rattle.tool_commands.specs.Taking.{left, end, lent_word, named_by};
 
 use crate::reading::LineFault;
-use crate::tools::{dirquota, filescrn};
+use crate::tools::{dirquota, filescrn, storrept};
 use crate::values::is_named;
 use crate::words::{LentWord, Words};
 use fsrm_model::{Command, Deed, FileOp};
@@ -112,6 +112,13 @@ fn screens(alloc: Global, moment: u64, words: &mut Words<'_>) -> Result<Option<C
     at(moment, filescrn(alloc, words)?)
 }
 
+// What the words after `storrept` spell, at a moment.
+fn reports(alloc: Global, moment: u64, words: &mut Words<'_>) -> Result<Option<Command>, LineFault>
+    ensures { ReadsWords result (at_moment moment (tool_words storrept (end words.old) (left words.old))) }
+{
+    at(moment, storrept(alloc, words)?)
+}
+
 // What a tool's name and the words after it spell, at a moment. It stands apart, since these commands take more room
 // than the others.
 #[inline(never)]
@@ -129,6 +136,9 @@ fn tool(
     }
     if is_named("filescrn", word) {
         return screens(alloc, moment, words);
+    }
+    if is_named("storrept", word) {
+        return reports(alloc, moment, words);
     }
     Err(LineFault::bad_line(name.column))
 }

@@ -1,15 +1,18 @@
 //! The forms of the values that options have, each with the reader of its values.
 
-ghost use Rattle.fsrm_model.specs.lines.ValueForms.{PathForm, LimitForm, NumberForm, ChoiceForm, UpdateForm, ObjectForm, NameForm, MembersForm, NonMembersForm, NoticeForm, ActionForm, path_of, number_of, choice_of, update_of, text_of, texts_of, notice_of, action_of};
-ghost use Rattle.fsrm_model.specs.values.Limits.{greatest_percent, most_minutes};
+ghost use Rattle.fsrm_model.specs.lines.ValueForms.{PathForm, LimitForm, NumberForm, ChoiceForm, UpdateForm, ObjectForm, NameForm, MembersForm, NonMembersForm, NoticeForm, ActionForm, ReportForm, PatternForm, ScheduleForm, path_of, number_of, choice_of, update_of, text_of, texts_of, notice_of, action_of, report_of};
+ghost use Rattle.fsrm_model.specs.values.Limits.{greatest_percent, longest_file, most_minutes};
 
 use crate::actions::{read_notice, read_percent, read_run_limit, read_screen_action};
 use crate::limits::read_limit;
 use crate::options::Form;
-use crate::patterns::{read_non_members, read_patterns};
+use crate::patterns::{read_non_members, read_pattern, read_patterns};
 use crate::reading::LineFault;
-use crate::values::{read_choice, read_name, read_object_name, read_path_word, read_update};
-use fsrm_model::{Action, Added, List, Path, Text, Update};
+use crate::report_words::{read_report, read_schedule};
+use crate::values::{
+    read_choice, read_length, read_name, read_object_name, read_path_word, read_small, read_update,
+};
+use fsrm_model::{Action, Added, List, Path, ReportKind, Text, Update};
 use std::alloc::Global;
 
 /// A path from the volume on.
@@ -111,7 +114,7 @@ impl Form for UpdateMode {
     }
 }
 
-/// The name of a file group or a template.
+/// The name of a file group, a template or a report job.
 #[derive(Clone, Copy)]
 pub struct ObjectName;
 
@@ -204,5 +207,88 @@ impl Form for ScreenAction {
 
     fn read(self, alloc: Global, column: u32, text: &str) -> Result<Action, LineFault> {
         read_screen_action(alloc, text, column)
+    }
+}
+
+/// A number of up to 32 bits, from one to another.
+#[derive(Clone, Copy)]
+pub struct Number {
+    pub least: u32,
+    pub greatest: u32,
+}
+
+impl Form for Number {
+    type Value = u32;
+
+    ghost form = { λ number. NumberForm number.least number.greatest };
+
+    ghost of = { number_of };
+
+    fn read(self, _alloc: Global, column: u32, text: &str) -> Result<u32, LineFault> {
+        read_small(text, column, self.least, self.greatest)
+    }
+}
+
+/// A file's length, in bytes.
+#[derive(Clone, Copy)]
+pub struct FileLength;
+
+impl Form for FileLength {
+    type Value = u64;
+
+    ghost form = { λ _. NumberForm 0 longest_file };
+
+    ghost of = { number_of };
+
+    fn read(self, _alloc: Global, column: u32, text: &str) -> Result<u64, LineFault> {
+        read_length(text, column)
+    }
+}
+
+/// What a report is about.
+#[derive(Clone, Copy)]
+pub struct ReportName;
+
+impl Form for ReportName {
+    type Value = ReportKind;
+
+    ghost form = { λ _. ReportForm };
+
+    ghost of = { report_of };
+
+    fn read(self, _alloc: Global, column: u32, text: &str) -> Result<ReportKind, LineFault> {
+        read_report(text, column)
+    }
+}
+
+/// A pattern of names.
+#[derive(Clone, Copy)]
+pub struct Pattern;
+
+impl Form for Pattern {
+    type Value = Text;
+
+    ghost form = { λ _. PatternForm };
+
+    ghost of = { text_of };
+
+    fn read(self, alloc: Global, _column: u32, text: &str) -> Result<Text, LineFault> {
+        read_pattern(alloc, text)
+    }
+}
+
+/// The schedule of a report job.
+#[derive(Clone, Copy)]
+pub struct Schedule;
+
+impl Form for Schedule {
+    type Value = Text;
+
+    ghost form = { λ _. ScheduleForm };
+
+    ghost of = { text_of };
+
+    fn read(self, alloc: Global, _column: u32, text: &str) -> Result<Text, LineFault> {
+        read_schedule(alloc, text)
     }
 }

@@ -2,11 +2,11 @@
 //! others would not be proved.
 
 use crate::forms::{
-    AbsolutePath, Choice, FolderName, Limit, Members, NonMembers, Notice, ObjectName, Percent,
-    RunLimit, ScreenAction, UpdateMode,
+    AbsolutePath, Choice, FileLength, FolderName, Limit, Members, NonMembers, Notice, Number,
+    ObjectName, Pattern, Percent, ReportName, RunLimit, Schedule, ScreenAction, UpdateMode,
 };
 use crate::options::{AtMost, Once, Repeated};
-use fsrm_model::limits::MOST_EXCLUDED;
+use fsrm_model::limits::{LAST_OWNER, MOST_DAYS, MOST_EXCLUDED, MOST_ROWS, MOST_USE};
 
 pub const PATH: Once<AbsolutePath> = Once {
     name: "/Path",
@@ -114,4 +114,69 @@ pub const ADD_FILEGROUP: Repeated<ObjectName> = Repeated {
 pub const SCREEN_NOTIFICATION: Repeated<ScreenAction> = Repeated {
     name: "/Add-Notification",
     form: ScreenAction,
+};
+
+/// The name of a report job.
+pub const TASK: Once<ObjectName> = Once {
+    name: "/Task",
+    form: ObjectName,
+};
+
+pub const REPORT: Once<ReportName> = Once {
+    name: "/Report",
+    form: ReportName,
+};
+
+pub const SCOPE: Once<AbsolutePath> = Once {
+    name: "/Scope",
+    form: AbsolutePath,
+};
+
+pub const SCHEDULE: Once<Schedule> = Once {
+    name: "/Schedule",
+    form: Schedule,
+};
+
+pub const OWNER: Once<Number> = Once {
+    name: "/Owner",
+    form: Number {
+        least: 1,
+        greatest: LAST_OWNER,
+    },
+};
+
+pub const PATTERN: Once<Pattern> = Once {
+    name: "/Pattern",
+    form: Pattern,
+};
+
+pub const MIN_SIZE: Once<FileLength> = Once {
+    name: "/MinSize",
+    form: FileLength,
+};
+
+pub const DAYS: Once<Number> = Once {
+    name: "/Days",
+    form: Number {
+        least: 0,
+        greatest: MOST_DAYS,
+    },
+};
+
+/// A percentage of a quota's limit.
+pub const MIN_USE: Once<Number> = Once {
+    name: "/MinUse",
+    form: Number {
+        least: 0,
+        greatest: MOST_USE,
+    },
+};
+
+/// How many rows a report may have.
+pub const MAX: Once<Number> = Once {
+    name: "/Max",
+    form: Number {
+        least: 1,
+        greatest: MOST_ROWS,
+    },
 };

@@ -18,6 +18,8 @@ mod paths;
 mod patterns;
 mod quotas;
 mod reading;
+mod report_words;
+mod reports;
 mod screens;
 mod templates;
 mod tools;

@@ -1,8 +1,9 @@
-//! The patterns of file groups, in the values of options.
+//! The patterns of file groups and of reports, in the values of options.
 
 ghost use Rattle.std.specs.Prelude.{◌≡◌, nat_le, length, IfOk};
 ghost use Rattle.std.specs.List.{list_all, slice_split};
 ghost use Rattle.fsrm_model.specs.lines.GroupWords.{is_bar, non_members_from, patterns_from};
+ghost use Rattle.fsrm_model.specs.texts.ReportWords.{pattern_from};
 ghost use Rattle.fsrm_model.specs.values.Limits.{most_patterns};
 ghost use Rattle.fsrm_model.specs.values.Patterns.{is_pattern};
 ghost use Rattle.tool_commands.specs.LineFaults.{Reads};
@@ -13,6 +14,16 @@ use fsrm_model::{List, NoMemory, Refusal, Text};
 use memchr::memchr_iter;
 use name_patterns::is_pattern;
 use std::alloc::Global;
+
+/// Reads a text as one pattern.
+pub fn read_pattern(alloc: Global, text: &str) -> Result<Text, LineFault>
+    ensures { Reads result (pattern_from text.now) }
+{
+    if !is_pattern(text) {
+        return Err(LineFault::Refused(Refusal::InvalidName));
+    }
+    Ok(Text::from_str(alloc, text)?)
+}
 
 // Whether each part of a text between bars is a pattern.
 fn are_patterns(text: &str) -> bool

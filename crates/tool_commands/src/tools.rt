@@ -1,7 +1,7 @@
-//! The tools `dirquota` and `filescrn`, each read from the words after its name.
+//! The tools `dirquota`, `filescrn` and `storrept`, each read from the words after its name.
 
 ghost use Rattle.fsrm_model.specs.lines.Line.{tool_words};
-ghost use Rattle.fsrm_model.specs.lines.Tools.{dirquota, filescrn};
+ghost use Rattle.fsrm_model.specs.lines.Tools.{dirquota, filescrn, storrept};
 ghost use Rattle.tool_commands.specs.LineFaults.{Reads};
 ghost use Rattle.tool_commands.specs.Taking.{left, end};
 
@@ -11,6 +11,7 @@ use crate::exceptions::exception;
 use crate::groups::filegroup;
 use crate::quotas::quota;
 use crate::reading::LineFault;
+use crate::reports::reports;
 use crate::screens::screen;
 use crate::templates::template;
 use crate::values::is_named;
@@ -61,6 +62,20 @@ pub fn filescrn(alloc: Global, words: &mut Words<'_>) -> Result<Deed, LineFault>
     if is_named("exception", word) {
         let deed = exception(alloc, words)?;
         return Ok(Deed::Exception(Boxed::new(alloc, deed)?));
+    }
+    Err(LineFault::bad_line(name.column))
+}
+
+/// What the words after `storrept` spell.
+#[inline(never)]
+pub fn storrept(alloc: Global, words: &mut Words<'_>) -> Result<Deed, LineFault>
+    ensures { Reads result (tool_words storrept (end words.old) (left words.old)) }
+{
+    let name = words.next(alloc)?;
+    let word = name.text.as_str();
+    if is_named("reports", word) {
+        let deed = reports(alloc, words)?;
+        return Ok(Deed::Reports(Boxed::new(alloc, deed)?));
     }
     Err(LineFault::bad_line(name.column))
 }

@@ -4,7 +4,7 @@ ghost use Rattle.std.specs.Prelude.{◌≡◌, ◌≤◌, ◌<◌, ◌&&◌, not
 ghost use Rattle.std.specs.Char.{is_ascii_digit};
 ghost use Rattle.std.specs.Str.{str_eq_ignore_ascii_case};
 ghost use Rattle.fsrm_model.specs.lines.GroupWords.{object_from};
-ghost use Rattle.fsrm_model.specs.values.Limits.{latest_moment, most_visits};
+ghost use Rattle.fsrm_model.specs.values.Limits.{latest_moment, longest_file, most_visits};
 ghost use Rattle.fsrm_model.specs.lines.Line.{number_word, length_word, owner_word, path_word};
 ghost use Rattle.fsrm_model.specs.declared.command.Refusal.TheVariants.{OutOfRange};
 ghost use Rattle.fsrm_model.specs.lines.Reading.{guarded, number_from, path_from, choice_from};
@@ -116,6 +116,21 @@ pub fn read_number(text: &str, column: u32, low: u64, high: u64) -> Result<u64, 
     }
 }
 
+/// The same for numbers of 32 bits.
+pub fn read_small(text: &str, column: u32, low: u32, high: u32) -> Result<u32, LineFault>
+    ensures { Reads result (number_from low high column text.now) }
+{
+    let number = read_number(text, column, low as u64, high as u64)?;
+    Ok(number as u32)
+}
+
+/// The length of a file that a text of a word at this column is, in bytes: 0 to 17,592,185,978,880.
+pub fn read_length(text: &str, column: u32) -> Result<u64, LineFault>
+    ensures { Reads result (number_from 0 longest_file column text.now) }
+{
+    read_number(text, column, 0, LONGEST_FILE)
+}
+
 /// The path that a text spells.
 pub fn read_path_word(alloc: Global, text: &str) -> Result<Path, LineFault>
     ensures { Reads result (path_from text.now) }
@@ -138,7 +153,7 @@ pub fn read_name(alloc: Global, text: &str) -> Result<Text, LineFault>
     Ok(Text::from_str(alloc, text)?)
 }
 
-/// Reads a text as the name of a file group or of a template: 1 to 255 bytes, no `|` and no control character.
+/// Reads a text as the name of a file group, a template or a report job: 1 to 255 bytes, no `|` and no control character.
 pub fn read_object_name(alloc: Global, text: &str) -> Result<Text, LineFault>
     ensures { Reads result (object_from text.now) }
 {
