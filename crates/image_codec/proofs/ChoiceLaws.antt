@@ -4,14 +4,12 @@ use Rattle.std.specs.Prelude.{ℤ, pos, negsuc, nat_lt, nat_eq}
 use Rattle.std.proofs.lemmas.Bool.{eqb-true, ltb-true, ltb-false, lt-ltb, le-ltb}
 use Rattle.fsrm_model.specs.declared.row.QuotaState.{QuotaState}
 use Rattle.fsrm_model.specs.declared.row.QuotaState.TheVariants.{Complete, Disabled, Rebuilding, Incomplete}
-use Rattle.fsrm_model.specs.declared.row.ReportKind.{ReportKind}
-use Rattle.fsrm_model.specs.declared.row.ReportKind.TheVariants.{LargeFiles, FilesByType, LeastRecentlyAccessed, MostRecentlyAccessed, QuotaUsage, FilesByOwner, DuplicateFiles, FileScreenAudit}
 use Rattle.record_fields.specs.Formats.{number}
 use Rattle.record_fields.specs.Laws.{Places}
 use Rattle.record_fields.proofs.NumberLaws.{width_1, width_4, number_exact, number_field}
 use Rattle.record_fields.proofs.StandingLaws.{picked, standing_field_places}
 use Rattle.record_codec.proofs.KindLaws.{chosen}
-use Rattle.image_codec.specs.Choices.{minutes, minutes_of, minutes_code, has_32_bits, state, state_of, state_code, is_kept_state, report_kind, report_kind_of, report_kind_code}
+use Rattle.image_codec.specs.Choices.{minutes, minutes_of, minutes_code, has_32_bits, state, state_of, state_code, is_kept_state}
 
 minutes_there : (z : ℤ) → has_32_bits z ≡ true → minutes_of (minutes_code z) ≡ Some z
 minutes_there (pos n) may = rw may refl
@@ -59,30 +57,3 @@ state_home n s =
 
 pub state_places : Places state
 state_places = standing_field_places state_of state_code is_kept_state (number 1) (number_exact 1 width_1) (number_field 1) state_there state_home Complete refl refl
-
-report_kind_there : (k : ReportKind) → true ≡ true → report_kind_of (report_kind_code k) ≡ Some k
-report_kind_there LargeFiles may = refl
-report_kind_there FilesByType may = refl
-report_kind_there LeastRecentlyAccessed may = refl
-report_kind_there MostRecentlyAccessed may = refl
-report_kind_there QuotaUsage may = refl
-report_kind_there FilesByOwner may = refl
-report_kind_there DuplicateFiles may = refl
-report_kind_there FileScreenAudit may = refl
-
-abbrev IsReportKind : ℕ → ReportKind → Type 0
-IsReportKind n k = (true ≡ true) × (report_kind_code k ≡ n)
-
-report_kind_home : (n : ℕ) (k : ReportKind) → report_kind_of n ≡ Some k → (true ≡ true) × (report_kind_code k ≡ n)
-report_kind_home n k =
-    chosen (IsReportKind n) (nat_eq n 1) LargeFiles k _ (λ e. (refl, sym (eqb-true n 1 e)))
-    (chosen (IsReportKind n) (nat_eq n 2) FilesByType k _ (λ e. (refl, sym (eqb-true n 2 e)))
-    (chosen (IsReportKind n) (nat_eq n 3) LeastRecentlyAccessed k _ (λ e. (refl, sym (eqb-true n 3 e)))
-    (chosen (IsReportKind n) (nat_eq n 4) MostRecentlyAccessed k _ (λ e. (refl, sym (eqb-true n 4 e)))
-    (chosen (IsReportKind n) (nat_eq n 5) QuotaUsage k _ (λ e. (refl, sym (eqb-true n 5 e)))
-    (chosen (IsReportKind n) (nat_eq n 6) FilesByOwner k _ (λ e. (refl, sym (eqb-true n 6 e)))
-    (chosen (IsReportKind n) (nat_eq n 7) DuplicateFiles k _ (λ e. (refl, sym (eqb-true n 7 e)))
-    (chosen (IsReportKind n) (nat_eq n 8) FileScreenAudit k None (λ e. (refl, sym (eqb-true n 8 e))) (λ e. absurd (cc e)))))))))
-
-pub report_kind_places : Places report_kind
-report_kind_places = standing_field_places report_kind_of report_kind_code (λ k. true) (number 1) (number_exact 1 width_1) (number_field 1) report_kind_there report_kind_home LargeFiles refl refl

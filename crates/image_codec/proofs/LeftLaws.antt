@@ -9,16 +9,16 @@ use Rattle.std.proofs.lemmas.List.Folds.{list_all-append}
 use Rattle.fsrm_base.proofs.TestLaws.{both, both_true}
 use Rattle.fsrm_base.specs.Keyed.{is_ascending, has_row}
 use Rattle.fsrm_model.specs.declared.row.Capacity.{Capacity}
-use Rattle.fsrm_model.specs.declared.row.JobRow.{JobRow}
 use Rattle.fsrm_model.specs.declared.row.NodeRow.{NodeRow}
 use Rattle.fsrm_model.specs.declared.row.Rows.{Rows}
 use Rattle.fsrm_model.specs.nodes.Tree.{number}
 use Rattle.fsrm_model.specs.objects.AutoApply.{auto_folder}
 use Rattle.fsrm_model.specs.objects.Quota.{folder_of}
+use Rattle.fsrm_model.specs.objects.Jobs.{job_number}
 use Rattle.fsrm_model.specs.objects.Screens.{screen_folder, except_folder}
 use Rattle.fsrm_model.specs.objects.Templates.{template_number}
-use Rattle.fsrm_model.specs.store.Valid.{is_sound_node, is_tree, are_quotas, are_templates, are_autos, are_groups, are_screens, are_excepts, are_audits, are_entries, are_tables, has_source, is_empty, is_valid}
-use Rattle.fsrm_model.specs.values.Limits.{most_quotas, most_templates, most_autos, most_groups, most_screens, most_excepts, most_entries, most_text_bytes}
+use Rattle.fsrm_model.specs.store.Valid.{is_sound_node, is_tree, are_quotas, are_templates, are_autos, are_groups, are_screens, are_excepts, are_audits, are_entries, are_jobs, are_tables, has_source, is_valid}
+use Rattle.fsrm_model.specs.values.Limits.{most_quotas, most_templates, most_autos, most_groups, most_screens, most_excepts, most_jobs, most_entries, most_text_bytes}
 use Rattle.fsrm_model.specs.values.Patterns.{group_number}
 use Rattle.fsrm_model.specs.values.Texts.{object_texts}
 use Rattle.record_fields.specs.Formats.{number_legal}
@@ -110,20 +110,16 @@ both_all p q (x ∷ xs) a b =
 small : (n most : ℕ) → most < 2 ^ 32 → nat_le n most ≡ true → n < 2 ^ 32
 small n most less few = omega (arith, less, leb-true n most few)
 
-no_rows_few : (jobs : List JobRow) → is_empty jobs ≡ true → length jobs < 2 ^ 32
-no_rows_few [] none = omega arith
-no_rows_few (j ∷ js) none = absurd (cc none)
-
 counts_fit : (K : Capacity) (R : Rows) → K.nodes < 2 ^ 32 → is_valid K R ≡ true → list_all is_counted (pieces R) ≡ true
 counts_fit K R size valid =
     let v = both (is_tree K R.nodes && (are_quotas R.nodes R.quotas && are_tables R)) _ valid in
     let w = both (is_tree K R.nodes) (are_quotas R.nodes R.quotas && are_tables R) v.0 in
     let t = both (are_quotas R.nodes R.quotas) (are_tables R) w.1 in
-    let u = both (list_all (has_source R.templates) R.quotas && (are_templates R.templates && (are_autos R.nodes R.templates R.autos && is_empty R.jobs)))
+    let u = both (list_all (has_source R.templates) R.quotas && (are_templates R.templates && (are_autos R.nodes R.templates R.autos && are_jobs R.nodes R.jobs)))
     ((are_groups R.groups && are_screens R.nodes R.groups R.excepts R.screens) && (are_excepts R.nodes R.groups R.excepts && are_audits R.audits)) t.1 in
-    let a = both (list_all (has_source R.templates) R.quotas) (are_templates R.templates && (are_autos R.nodes R.templates R.autos && is_empty R.jobs)) u.0 in
-    let b = both (are_templates R.templates) (are_autos R.nodes R.templates R.autos && is_empty R.jobs) a.1 in
-    let c = both (are_autos R.nodes R.templates R.autos) (is_empty R.jobs) b.1 in
+    let a = both (list_all (has_source R.templates) R.quotas) (are_templates R.templates && (are_autos R.nodes R.templates R.autos && are_jobs R.nodes R.jobs)) u.0 in
+    let b = both (are_templates R.templates) (are_autos R.nodes R.templates R.autos && are_jobs R.nodes R.jobs) a.1 in
+    let c = both (are_autos R.nodes R.templates R.autos) (are_jobs R.nodes R.jobs) b.1 in
     let d = both (are_groups R.groups && are_screens R.nodes R.groups R.excepts R.screens) (are_excepts R.nodes R.groups R.excepts && are_audits R.audits) u.1 in
     let e = both (are_groups R.groups) (are_screens R.nodes R.groups R.excepts R.screens) d.0 in
     let f = both (are_excepts R.nodes R.groups R.excepts) (are_audits R.audits) d.1 in
@@ -135,7 +131,7 @@ counts_fit K R size valid =
     let groups = small (length R.groups) most_groups (omega arith) (both (is_ascending group_number R.groups) _ (both (is_ascending group_number R.groups && _) _ e.0).0).1 in
     let screens = small (length R.screens) most_screens (omega arith) (both (is_ascending screen_folder R.screens) _ (both (is_ascending screen_folder R.screens && _) _ e.1).0).1 in
     let excepts = small (length R.excepts) most_excepts (omega arith) (both (is_ascending except_folder R.excepts) _ (both (is_ascending except_folder R.excepts && _) _ f.0).0).1 in
-    let jobs = no_rows_few R.jobs c.1 in
+    let jobs = small (length R.jobs) most_jobs (omega arith) (both (is_ascending job_number R.jobs) _ (both (is_ascending job_number R.jobs && _) _ c.1).0).1 in
     let acts = small (length R.acts) most_entries (omega arith) (both (nat_le (length R.acts) most_entries) _ g.0).0 in
     let audits = small (length R.audits) most_entries (omega arith) (both (nat_le (length R.audits) most_entries) _ f.1).0 in
     ap (list_all is_counted) (sym (all_left R))

@@ -11,12 +11,12 @@ use Rattle.record_fields.proofs.NumberLaws.{width_2, width_4, width_8, number_pl
 use Rattle.record_fields.proofs.OptionalLaws.{optional_places}
 use Rattle.record_fields.proofs.StandingLaws.{shaped_places, standing_places, truth_places}
 use Rattle.record_fields.proofs.TextLaws.{text_places}
-use Rattle.record_codec.proofs.FieldLaws.{action_kind_places}
-use Rattle.record_codec.specs.Fields.{action_kind}
-use Rattle.image_codec.specs.Choices.{minutes, state, report_kind}
+use Rattle.record_codec.proofs.FieldLaws.{action_kind_places, report_kind_places}
+use Rattle.record_codec.specs.Fields.{action_kind, report_kind}
+use Rattle.image_codec.specs.Choices.{minutes, state}
 use Rattle.image_codec.specs.Images.{image, rows_of, rows_values, has_no_scan, RowsValues}
 use Rattle.image_codec.specs.Rows.{rows, node, node_of, node_values, action, action_of, action_values, threshold, threshold_of, threshold_values, quota, quota_of, quota_values, template, template_of, template_values, auto, auto_of, auto_values, group, group_of, group_values, screen, screen_of, screen_values, except, except_of, except_values, filter, filter_of, filter_values, job, job_of, job_values, act, act_of, act_values, audit, audit_of, audit_values}
-use Rattle.image_codec.proofs.ChoiceLaws.{minutes_places, state_places, report_kind_places}
+use Rattle.image_codec.proofs.ChoiceLaws.{minutes_places, state_places}
 
 two : Places (number 2)
 two = number_places 2 width_2

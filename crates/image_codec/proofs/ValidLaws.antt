@@ -1,7 +1,8 @@
 -- Valid rows meet the limits of pieces.
-use Rattle.std.proofs.Common.{◌≡◌, ◌⊎◌, inl, inr, ℕ, ◌≤◌, Bool, true, false, cond, List, [], ◌∷◌, ◌++◌, length, refl, ◌∙◌, arith}
+use Rattle.std.proofs.Common.{◌≡◌, ◌⊎◌, inl, inr, ℕ, ◌≤◌, Bool, true, false, cond, List, [], ◌∷◌, ◌++◌, length, Option, Some, None, refl, ◌∙◌, arith}
 use Rattle.std.specs.Prelude.{◌==◌, ◌&&◌, ◌||◌, not, nat_lt, nat_le, map}
 use Rattle.std.specs.List.{list_all, list_any}
+use Rattle.std.specs.Option.{option_map_or}
 use Rattle.std.proofs.lemmas.Bool.{eqb-true, leb-true, le-leb, ltb-false}
 use Rattle.fsrm_base.proofs.TestLaws.{both, both_true, is_false}
 use Rattle.fsrm_base.specs.Keyed.{is_ascending, has_row}
@@ -10,6 +11,7 @@ use Rattle.fsrm_model.specs.declared.row.AuditRow.{AuditRow}
 use Rattle.fsrm_model.specs.declared.row.AutoRow.{AutoRow}
 use Rattle.fsrm_model.specs.declared.row.Capacity.{Capacity}
 use Rattle.fsrm_model.specs.declared.row.ExceptRow.{ExceptRow}
+use Rattle.fsrm_model.specs.declared.row.Filter.{Filter}
 use Rattle.fsrm_model.specs.declared.row.GroupRow.{GroupRow}
 use Rattle.fsrm_model.specs.declared.row.JobRow.{JobRow}
 use Rattle.fsrm_model.specs.declared.row.NodeRow.{NodeRow}
@@ -20,14 +22,16 @@ use Rattle.fsrm_model.specs.declared.row.TemplateRow.{TemplateRow}
 use Rattle.fsrm_model.specs.declared.row.Threshold.{Threshold}
 use Rattle.fsrm_model.specs.nodes.Tree.{number, is_folder}
 use Rattle.fsrm_model.specs.objects.AutoApply.{is_auto}
+use Rattle.fsrm_model.specs.objects.Jobs.{is_schedule, is_job}
 use Rattle.fsrm_model.specs.objects.Quota.{is_limit}
 use Rattle.fsrm_model.specs.objects.Templates.{template_number, is_template, is_unrun}
 use Rattle.fsrm_model.specs.objects.Thresholds.{percent_of, is_percent, are_minutes, is_printing, is_action_text, is_action, is_kept_action, is_threshold, is_crowded, are_too_many, are_thresholds}
-use Rattle.fsrm_model.specs.store.Valid.{is_root_node, is_own, is_inner_node, is_sound_node, is_tree, is_sound_quota, are_quotas, are_templates, is_sound_auto, are_autos, are_groups, are_group_numbers, are_screen_actions, is_sound_screen, are_screens, is_sound_except, are_excepts, is_audit, are_audits, are_tables, has_source, is_empty, is_moment, is_valid}
-use Rattle.fsrm_model.specs.values.Limits.{longest_name, longest_action_text}
+use Rattle.fsrm_model.specs.reports.Filters.{is_owner, is_length, is_filter}
+use Rattle.fsrm_model.specs.store.Valid.{is_root_node, is_own, is_inner_node, is_sound_node, is_tree, is_sound_quota, are_quotas, are_templates, is_sound_auto, are_autos, are_groups, are_group_numbers, are_screen_actions, is_sound_screen, are_screens, is_sound_except, are_excepts, is_audit, are_audits, is_sound_job, are_jobs, are_tables, has_source, is_moment, is_valid}
+use Rattle.fsrm_model.specs.values.Limits.{longest_name, longest_action_text, longest_schedule, most_jobs}
 use Rattle.fsrm_model.specs.values.Name.{is_name}
 use Rattle.fsrm_model.specs.values.Patterns.{is_object_name, is_object_byte, is_pattern, are_members, are_non_members, is_group}
-use Rattle.image_codec.specs.Parts.{any, is_short, few_meet, action_meets, threshold_meets, thresholds_meet, quota_meets, template_meets, auto_meets, group_meets, screen_meets, except_meets, job_meets}
+use Rattle.image_codec.specs.Parts.{any, is_short, few_meet, action_meets, threshold_meets, thresholds_meet, quota_meets, template_meets, auto_meets, group_meets, screen_meets, except_meets, some_meets, filter_meets, job_meets}
 use Rattle.image_codec.specs.Pieces.{Piece, NodePiece, QuotaPiece, TemplatePiece, AutoPiece, GroupPiece, ScreenPiece, ExceptPiece, JobPiece, ActPiece, AuditPiece, piece_meets, list_pieces, pieces}
 
 -- ---- lists
@@ -148,9 +152,25 @@ except_fits nodes groups e sound = numbers_fit groups e.groups (both (is_folder 
 audit_fits : (a : AuditRow) → is_audit a ≡ true → is_short a.name ≡ true
 audit_fits a is = name_short a.name (both (is_moment a.moment) (is_name a.name) is).1
 
-no_job : (jobs : List JobRow) → is_empty jobs ≡ true → list_all job_meets jobs ≡ true
-no_job [] none = refl
-no_job (j ∷ js) none = absurd (cc none)
+schedule_short : (text : List ℕ) → is_schedule text ≡ true → is_short text ≡ true
+schedule_short text is = within text longest_schedule (omega arith) (both (nat_le (length text) longest_schedule) (list_all is_printing text) is).0
+
+pattern_fits : (o : Option (List ℕ)) → option_map_or is_pattern o true ≡ true → some_meets is_short o ≡ true
+pattern_fits None is = refl
+pattern_fits (Some pattern) is = pattern_short pattern is
+
+filter_fits : (f : Filter) → is_filter f ≡ true → filter_meets f ≡ true
+filter_fits f is =
+    let a = both (option_map_or is_owner f.owner true && (option_map_or is_pattern f.pattern true && option_map_or is_length f.min_size true)) _ is in
+    let b = both (option_map_or is_owner f.owner true) (option_map_or is_pattern f.pattern true && option_map_or is_length f.min_size true) a.0 in
+    pattern_fits f.pattern (both (option_map_or is_pattern f.pattern true) (option_map_or is_length f.min_size true) b.1).0
+
+job_fits : (nodes : List NodeRow) (j : JobRow) → is_sound_job nodes j ≡ true → job_meets j ≡ true
+job_fits nodes j sound =
+    let a = both (nat_lt j.number most_jobs && is_object_name j.name) (is_filter j.filter && (is_schedule j.schedule && _)) (both (is_folder nodes j.scope) (is_job j) sound).1 in
+    let b = both (is_filter j.filter) (is_schedule j.schedule && _) a.1 in
+    both_true _ _ (object_short j.name (both (nat_lt j.number most_jobs) (is_object_name j.name) a.0).1)
+    (both_true _ _ (filter_fits j.filter b.0) (schedule_short j.schedule (both (is_schedule j.schedule) _ b.1).0))
 
 pub valid_pieces : (K : Capacity) (R : Rows) → is_valid K R ≡ true → list_all piece_meets (pieces R) ≡ true
 valid_pieces K R valid =
@@ -159,13 +179,14 @@ valid_pieces K R valid =
     let tree = both (list_all (is_sound_node K R.nodes) R.nodes) _ (both (is_ascending number R.nodes && has_row number 0 R.nodes) _ w.0).1 in
     let t = both (are_quotas R.nodes R.quotas) (are_tables R) w.1 in
     let quotas = (both _ (list_all (is_sound_quota R.nodes) R.quotas) t.0).1 in
-    let u = both (list_all (has_source R.templates) R.quotas && (are_templates R.templates && (are_autos R.nodes R.templates R.autos && is_empty R.jobs)))
+    let u = both (list_all (has_source R.templates) R.quotas && (are_templates R.templates && (are_autos R.nodes R.templates R.autos && are_jobs R.nodes R.jobs)))
     ((are_groups R.groups && are_screens R.nodes R.groups R.excepts R.screens) && (are_excepts R.nodes R.groups R.excepts && are_audits R.audits)) t.1 in
-    let a = both (list_all (has_source R.templates) R.quotas) (are_templates R.templates && (are_autos R.nodes R.templates R.autos && is_empty R.jobs)) u.0 in
-    let b = both (are_templates R.templates) (are_autos R.nodes R.templates R.autos && is_empty R.jobs) a.1 in
+    let a = both (list_all (has_source R.templates) R.quotas) (are_templates R.templates && (are_autos R.nodes R.templates R.autos && are_jobs R.nodes R.jobs)) u.0 in
+    let b = both (are_templates R.templates) (are_autos R.nodes R.templates R.autos && are_jobs R.nodes R.jobs) a.1 in
     let templates = (both (list_all is_template R.templates) _ (both _ _ b.0).1).0 in
-    let c = both (are_autos R.nodes R.templates R.autos) (is_empty R.jobs) b.1 in
+    let c = both (are_autos R.nodes R.templates R.autos) (are_jobs R.nodes R.jobs) b.1 in
     let autos = (both _ (list_all (is_sound_auto R.nodes R.templates) R.autos) c.0).1 in
+    let jobs = (both (list_all (is_sound_job R.nodes) R.jobs) _ (both _ _ c.1).1).0 in
     let d = both (are_groups R.groups && are_screens R.nodes R.groups R.excepts R.screens) (are_excepts R.nodes R.groups R.excepts && are_audits R.audits) u.1 in
     let e = both (are_groups R.groups) (are_screens R.nodes R.groups R.excepts R.screens) d.0 in
     let groups = (both (list_all is_group R.groups) _ (both _ _ e.0).1).0 in
@@ -178,7 +199,7 @@ valid_pieces K R valid =
     let acts_pieces : List Piece = list_pieces ActPiece R.acts ++ audits_pieces in
     let acts_meet : list_all piece_meets acts_pieces ≡ true = mapped_meet ActPiece any (λ x. refl) R.acts audits_pieces (each_any R.acts) audits_meet in
     let jobs_pieces : List Piece = list_pieces JobPiece R.jobs ++ acts_pieces in
-    let jobs_meet : list_all piece_meets jobs_pieces ≡ true = mapped_meet JobPiece job_meets (λ x. refl) R.jobs acts_pieces (no_job R.jobs c.1) acts_meet in
+    let jobs_meet : list_all piece_meets jobs_pieces ≡ true = mapped_meet JobPiece job_meets (λ x. refl) R.jobs acts_pieces (each_so (is_sound_job R.nodes) job_meets (job_fits R.nodes) R.jobs jobs) acts_meet in
     let excepts_pieces : List Piece = list_pieces ExceptPiece R.excepts ++ jobs_pieces in
     let excepts_meet : list_all piece_meets excepts_pieces ≡ true = mapped_meet ExceptPiece except_meets (λ x. refl) R.excepts jobs_pieces (each_so (is_sound_except R.nodes R.groups) except_meets (except_fits R.nodes R.groups) R.excepts excepts) jobs_meet in
     let screens_pieces : List Piece = list_pieces ScreenPiece R.screens ++ excepts_pieces in

@@ -2,8 +2,6 @@
 use Rattle.std.specs.Prelude.{ℕ, ◌-◌, ◌^◌, ◌==◌, nat_lt, Bool, true, false, ℤ, pos, negsuc, Option, Some, None, if◌then◌else◌}
 use Rattle.fsrm_model.specs.declared.row.QuotaState.{QuotaState}
 use Rattle.fsrm_model.specs.declared.row.QuotaState.TheVariants.{Complete, Disabled, Rebuilding, Incomplete}
-use Rattle.fsrm_model.specs.declared.row.ReportKind.{ReportKind}
-use Rattle.fsrm_model.specs.declared.row.ReportKind.TheVariants.{LargeFiles, FilesByType, LeastRecentlyAccessed, MostRecentlyAccessed, QuotaUsage, FilesByOwner, DuplicateFiles, FileScreenAudit}
 use Rattle.record_fields.specs.Formats.{Format, number, standing, choice}
 
 -- minutes, in two's complement in four bytes
@@ -40,28 +38,3 @@ is_kept_state other = true
 
 abbrev pub state : Format QuotaState
 state = choice state_of state_code is_kept_state
-
--- what a report is about
-abbrev pub report_kind_of : ℕ → Option ReportKind
-report_kind_of n =
-    if n == 1 then Some LargeFiles
-    else if n == 2 then Some FilesByType
-    else if n == 3 then Some LeastRecentlyAccessed
-    else if n == 4 then Some MostRecentlyAccessed
-    else if n == 5 then Some QuotaUsage
-    else if n == 6 then Some FilesByOwner
-    else if n == 7 then Some DuplicateFiles
-    else if n == 8 then Some FileScreenAudit else None
-
-abbrev pub report_kind_code : ReportKind → ℕ
-report_kind_code LargeFiles = 1
-report_kind_code FilesByType = 2
-report_kind_code LeastRecentlyAccessed = 3
-report_kind_code MostRecentlyAccessed = 4
-report_kind_code QuotaUsage = 5
-report_kind_code FilesByOwner = 6
-report_kind_code DuplicateFiles = 7
-report_kind_code FileScreenAudit = 8
-
-abbrev pub report_kind : Format ReportKind
-report_kind = choice report_kind_of report_kind_code (λ k. true)

@@ -19,8 +19,8 @@ use Rattle.fsrm_model.specs.declared.row.ScreenRow.{ScreenRow}
 use Rattle.fsrm_model.specs.declared.row.TemplateRow.{TemplateRow}
 use Rattle.fsrm_model.specs.declared.row.Threshold.{Threshold}
 use Rattle.record_fields.specs.Formats.{Format, number, text, truth, shaped, ◌⊗◌, optional, listed}
-use Rattle.record_codec.specs.Fields.{action_kind}
-use Rattle.image_codec.specs.Choices.{minutes, state, report_kind}
+use Rattle.record_codec.specs.Fields.{action_kind, report_kind}
+use Rattle.image_codec.specs.Choices.{minutes, state}
 
 abbrev pub rows : {X : Type 0} → Format X → Format (List X)
 rows f = listed (number 4) f

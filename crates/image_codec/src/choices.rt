@@ -4,9 +4,9 @@ ghost use Rattle.std.specs.Prelude.{◌≡◌, ◌≤◌, true, length};
 ghost use Rattle.fsrm_model.specs.store.Lasting.{flagged};
 ghost use Rattle.record_fields.specs.Readers.{Shows};
 ghost use Rattle.record_fields.specs.Writers.{Writes};
-ghost use Rattle.image_codec.specs.Choices.{minutes as minutes_format, report_kind, state as state_format};
+ghost use Rattle.image_codec.specs.Choices.{minutes as minutes_format, state as state_format};
 
-use fsrm_model::{QuotaState, ReportKind};
+use fsrm_model::QuotaState;
 use record_fields::{Flaw, Reader, put_u8, put_u32};
 
 /// Minutes in two's complement.
@@ -57,42 +57,6 @@ pub fn put_state(state: QuotaState, into: &mut [u8], at: usize) -> usize
         QuotaState::Complete => 0,
         QuotaState::Disabled => 1,
         QuotaState::Rebuilding | QuotaState::Incomplete => 2,
-    };
-    put_u8(into, at, code)
-}
-
-#[tactic(auto, unfolding(record_fields::specs::Formats::known_at))]
-pub fn read_report_kind(reader: &mut Reader<'_>) -> Result<ReportKind, Flaw>
-    ensures { Shows result reader.new (report_kind.read reader.old) }
-{
-    let left = reader.left();
-    match reader.read_u8()? {
-        1 => Ok(ReportKind::LargeFiles),
-        2 => Ok(ReportKind::FilesByType),
-        3 => Ok(ReportKind::LeastRecentlyAccessed),
-        4 => Ok(ReportKind::MostRecentlyAccessed),
-        5 => Ok(ReportKind::QuotaUsage),
-        6 => Ok(ReportKind::FilesByOwner),
-        7 => Ok(ReportKind::DuplicateFiles),
-        8 => Ok(ReportKind::FileScreenAudit),
-        _ => Err(Flaw::Illegal { left }),
-    }
-}
-
-pub fn put_report_kind(kind: ReportKind, into: &mut [u8], at: usize) -> usize
-    requires { at ≤ length into.old }
-    ensures written { Writes into.old at into.new result (report_kind.spell kind) }
-    ensures legal { report_kind.legal kind ≡ true }
-{
-    let code = match kind {
-        ReportKind::LargeFiles => 1,
-        ReportKind::FilesByType => 2,
-        ReportKind::LeastRecentlyAccessed => 3,
-        ReportKind::MostRecentlyAccessed => 4,
-        ReportKind::QuotaUsage => 5,
-        ReportKind::FilesByOwner => 6,
-        ReportKind::DuplicateFiles => 7,
-        ReportKind::FileScreenAudit => 8,
     };
     put_u8(into, at, code)
 }

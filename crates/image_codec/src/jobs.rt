@@ -6,9 +6,9 @@ ghost use Rattle.record_fields.specs.Writers.{Writes};
 ghost use Rattle.image_codec.specs.Parts.{filter_meets, job_meets};
 ghost use Rattle.image_codec.specs.Rows.{filter as filter_format, job as job_format};
 
-use crate::choices::{put_report_kind, read_report_kind};
 use crate::parts::{Part, put_maybe};
 use fsrm_model::{Filter, JobRow};
+use record_codec::ReportKindField;
 use record_fields::{Field, FieldFault, Reader, TextField, U32Field, U64Field, read_optional};
 use std::alloc::Global;
 
@@ -57,7 +57,7 @@ impl Field for JobField {
     fn read(alloc: Global, reader: &mut Reader<'_>) -> Result<JobRow, FieldFault> {
         let number = reader.read_u32()?;
         let name = TextField::read(alloc, reader)?;
-        let kind = read_report_kind(reader)?;
+        let kind = ReportKindField::read(alloc, reader)?;
         let scope = reader.read_u32()?;
         let filter = read_filter(alloc, reader)?;
         let schedule = TextField::read(alloc, reader)?;
@@ -87,7 +87,7 @@ pub fn put_job(job: &JobRow, into: &mut [u8], at: usize) -> usize
 {
     let number_end = U32Field::put(&job.number, into, at);
     let name_end = TextField::put(&job.name, into, number_end);
-    let kind_end = put_report_kind(job.kind, into, name_end);
+    let kind_end = ReportKindField::put(&job.kind, into, name_end);
     let scope_end = U32Field::put(&job.scope, into, kind_end);
     let filter_end = put_filter(&job.filter, into, scope_end);
     let schedule_end = TextField::put(&job.schedule, into, filter_end);

@@ -4,13 +4,13 @@ ghost use Rattle.std.specs.Prelude.{◌≡◌, ◌≤◌, ◌<◌, ◌^◌, ℕ,
 ghost use Rattle.std.specs.List.{flat_map, list_all};
 ghost use Rattle.record_fields.specs.Formats.{Format, number, text, truth, number_spelled, optional, optional_spelled, listed_spelled};
 ghost use Rattle.record_fields.specs.Writers.{Writes};
-ghost use Rattle.record_codec.specs.Fields.{action_kind};
+ghost use Rattle.record_codec.specs.Fields.{action_kind, report_kind};
 ghost use Rattle.image_codec.specs.Parts.{any, is_short, few_meet, some_meets};
 ghost use Rattle.image_codec.specs.Rows.{rows};
 
 use fsrm_base::{List, Text};
-use fsrm_model::ActionKind;
-use record_codec::ActionKindField;
+use fsrm_model::{ActionKind, ReportKind};
+use record_codec::{ActionKindField, ReportKindField};
 use record_fields::writer::put_number;
 use record_fields::{
     Field, TextField, TruthField, U16Field, U32Field, U64Field, put_text, put_truth, put_u8,
@@ -91,6 +91,18 @@ impl Part for ActionKindField {
 
     fn put(value: &ActionKind, into: &mut [u8], at: usize) -> usize {
         ActionKindField::write(value, into, at)
+    }
+}
+
+impl Part for ReportKindField {
+    type Value = ReportKind;
+
+    ghost format = { report_kind };
+
+    ghost meets = { any };
+
+    fn put(value: &ReportKind, into: &mut [u8], at: usize) -> usize {
+        ReportKindField::write(value, into, at)
     }
 }
 

@@ -3,8 +3,8 @@ use Rattle.std.proofs.Common.{◌≡◌, true, false, List, [], ◌∷◌, refl}
 use Rattle.std.specs.Prelude.{◌&&◌, Bool, is_none}
 use Rattle.std.specs.List.{list_all}
 use Rattle.fsrm_base.proofs.TestLaws.{both, both_true}
-use Rattle.fsrm_model.specs.commands.Commands.{form_of_op, form_of_quota, form_of_template, form_of_autoquota, form_of_admin, form_of_filegroup, form_of_screen, form_of_exception}
-use Rattle.fsrm_model.specs.commands.Commands.{is_new_quota, is_quota_change, is_new_template, is_template_change, is_new_autoquota, is_new_filegroup, is_filegroup_change, is_new_screen, is_screen_change, is_new_exception}
+use Rattle.fsrm_model.specs.commands.Commands.{form_of_op, form_of_quota, form_of_template, form_of_autoquota, form_of_admin, form_of_filegroup, form_of_screen, form_of_exception, form_of_reports}
+use Rattle.fsrm_model.specs.commands.Commands.{is_new_quota, is_quota_change, is_new_template, is_template_change, is_new_autoquota, is_new_filegroup, is_filegroup_change, is_new_screen, is_screen_change, is_new_exception, is_new_job}
 use Rattle.fsrm_model.specs.commands.Entry.{Path}
 use Rattle.fsrm_model.specs.declared.command.AdminDeed.{AdminDeed}
 use Rattle.fsrm_model.specs.declared.command.AdminDeed.TheVariants.{Options as AdminOptions}
@@ -20,18 +20,22 @@ use Rattle.fsrm_model.specs.declared.command.FilegroupDeed.TheVariants.{Add as F
 use Rattle.fsrm_model.specs.declared.command.NewAutoquota.{NewAutoquota}
 use Rattle.fsrm_model.specs.declared.command.NewException.{NewException}
 use Rattle.fsrm_model.specs.declared.command.NewFilegroup.{NewFilegroup}
+use Rattle.fsrm_model.specs.declared.command.NewJob.{NewJob}
 use Rattle.fsrm_model.specs.declared.command.NewQuota.{NewQuota}
 use Rattle.fsrm_model.specs.declared.command.NewScreen.{NewScreen}
 use Rattle.fsrm_model.specs.declared.command.NewTemplate.{NewTemplate}
 use Rattle.fsrm_model.specs.declared.command.QuotaChange.{QuotaChange}
 use Rattle.fsrm_model.specs.declared.command.QuotaDeed.{QuotaDeed}
 use Rattle.fsrm_model.specs.declared.command.QuotaDeed.TheVariants.{Add as QuotaAdd, Modify as QuotaModify, Delete as QuotaDelete, Scan as QuotaScan, Resetpeak as QuotaResetpeak}
+use Rattle.fsrm_model.specs.declared.command.ReportsDeed.{ReportsDeed}
+use Rattle.fsrm_model.specs.declared.command.ReportsDeed.TheVariants.{Add as ReportsAdd, Delete as ReportsDelete, Run as ReportsRun}
 use Rattle.fsrm_model.specs.declared.command.ScreenChange.{ScreenChange}
 use Rattle.fsrm_model.specs.declared.command.ScreenDeed.{ScreenDeed}
 use Rattle.fsrm_model.specs.declared.command.ScreenDeed.TheVariants.{Add as ScreenAdd, Modify as ScreenModify, Delete as ScreenDelete}
 use Rattle.fsrm_model.specs.declared.command.TemplateChange.{TemplateChange}
 use Rattle.fsrm_model.specs.declared.command.TemplateDeed.{TemplateDeed}
 use Rattle.fsrm_model.specs.declared.command.TemplateDeed.TheVariants.{Add as TemplateAdd, Modify as TemplateModify, Delete as TemplateDelete}
+use Rattle.fsrm_model.specs.objects.Jobs.{is_schedule}
 use Rattle.fsrm_model.specs.store.Valued.{is_path, is_short_path}
 use Rattle.fsrm_model.specs.values.Limits.{most_minutes}
 use Rattle.fsrm_model.specs.values.Patterns.{are_members, are_non_members}
@@ -46,6 +50,8 @@ use Rattle.record_codec.specs.declared.files.FileKind.{FileKind}
 use Rattle.record_codec.specs.declared.files.FileKind.TheVariants.{Mkdir as MkdirKind, Create as CreateKind, Resize as ResizeKind, Touch as TouchKind, Move as MoveKind, Remove as RemoveKind}
 use Rattle.record_codec.specs.declared.quotas.QuotaKind.{QuotaKind}
 use Rattle.record_codec.specs.declared.quotas.QuotaKind.TheVariants.{Add as AddQuota, Modify as ModifyQuota, Delete as DeleteQuota, Scan as ScanQuota, Resetpeak as ResetpeakQuota}
+use Rattle.record_codec.specs.declared.reports.JobKind.{JobKind}
+use Rattle.record_codec.specs.declared.reports.JobKind.TheVariants.{Add as AddJob, Delete as DeleteJob, Run as RunJob}
 use Rattle.record_codec.specs.declared.screens.ScreenKind.{ScreenKind}
 use Rattle.record_codec.specs.declared.screens.ScreenKind.TheVariants.{Add as AddScreen, Modify as ModifyScreen, Delete as DeleteScreen}
 use Rattle.record_codec.specs.declared.settings.SettingKind.{SettingKind}
@@ -54,15 +60,17 @@ use Rattle.record_codec.specs.declared.templates.TemplateKind.{TemplateKind}
 use Rattle.record_codec.specs.declared.templates.TemplateKind.TheVariants.{Add as AddTemplate, Modify as ModifyTemplate, Delete as DeleteTemplate}
 use Rattle.record_codec.specs.Autoquotas.{autoquota_deed, new_autoquota}
 use Rattle.record_codec.specs.Exceptions.{exception_deed, new_exception}
-use Rattle.record_codec.specs.Fields.{owner, file_length, limit, percent, object_name, path, action, many, at_least_one, members, non_members, excluded_names}
+use Rattle.record_codec.specs.Fields.{owner, file_length, limit, percent, object_name, report_kind, schedule, path, action, many, at_least_one, members, non_members, excluded_names}
 use Rattle.record_codec.specs.Filegroups.{filegroup_deed, new_filegroup, filegroup_change}
 use Rattle.record_codec.specs.Files.{file_op}
+use Rattle.record_codec.specs.Filters.{filter}
 use Rattle.record_codec.specs.Notices.{new_thresholds}
 use Rattle.record_codec.specs.Quotas.{quota_deed, new_quota, quota_change, quota_rest}
+use Rattle.record_codec.specs.Reports.{job_deed, new_job}
 use Rattle.record_codec.specs.Screens.{screen_deed, new_screen, screen_change}
 use Rattle.record_codec.specs.Settings.{setting_deed}
 use Rattle.record_codec.specs.Templates.{template_deed, new_template, template_change, update}
-use Rattle.record_codec.proofs.Formed.{most_formed, owner_formed, length_formed, limit_formed, object_name_formed, one_formed, two_formed, percents_formed, actions_formed, thresholds_formed, names_formed, some_names_formed, members_formed, non_members_formed, excluded_formed, given_formed, limit_or_formed}
+use Rattle.record_codec.proofs.Formed.{most_formed, owner_formed, length_formed, limit_formed, object_name_formed, one_formed, two_formed, percents_formed, actions_formed, thresholds_formed, names_formed, some_names_formed, members_formed, non_members_formed, excluded_formed, given_formed, limit_or_formed, schedule_formed, filter_formed}
 
 -- the paths of a command are names and short, and its other values have their forms
 abbrev pub AreFormed : List Path → Bool → Type 0
@@ -216,3 +224,24 @@ pub exception_formed : (k : ExceptionKind) (deed : ExceptionDeed) → (exception
 exception_formed AddException (ExceptionAdd new) legal = new_exception_formed new legal
 exception_formed DeleteException (ExceptionDelete at) legal = alone at legal
 exception_formed k other legal = absurd (cc legal)
+
+-- ---- report jobs
+new_job_formed : (new : NewJob) → new_job.legal new ≡ true → AreFormed (new.scope ∷ []) (is_new_job new)
+new_job_formed new legal =
+    let rest = optional_legal false schedule new.schedule && filter.legal new.filter in
+    let a = both (object_name.legal new.name) (report_kind.legal new.kind && (path.legal new.scope && rest)) legal in
+    let b = both (report_kind.legal new.kind) (path.legal new.scope && rest) a.1 in
+    let c = both (path.legal new.scope) rest b.1 in
+    let d = both (optional_legal false schedule new.schedule) (filter.legal new.filter) c.1 in
+    let f = one_formed new.scope c.0 in (
+      f.0,
+      f.1,
+      both_true _ _ (object_name_formed new.name a.0)
+          (both_true _ _ (given_formed schedule is_schedule schedule_formed new.schedule d.0) (filter_formed new.filter d.1)),
+    )
+
+pub job_formed : (k : JobKind) (deed : ReportsDeed) → (job_deed k).legal deed ≡ true → AreFormed (form_of_reports deed).paths (form_of_reports deed).legal
+job_formed AddJob (ReportsAdd new) legal = new_job_formed new legal
+job_formed DeleteJob (ReportsDelete name) legal = (refl, refl, object_name_formed name legal)
+job_formed RunJob (ReportsRun name) legal = (refl, refl, object_name_formed name legal)
+job_formed k other legal = absurd (cc legal)

@@ -5,24 +5,26 @@ use Rattle.std.specs.Option.{option_or}
 use Rattle.std.proofs.lemmas.Grind.{common_steps}
 use Rattle.fsrm_model.specs.commands.Commands.{kind}
 use Rattle.fsrm_model.specs.declared.command.Deed.{Deed}
-use Rattle.fsrm_model.specs.declared.command.Deed.TheVariants.{File, Quota, Template, Autoquota, Admin, Filegroup, Screen, Exception}
+use Rattle.fsrm_model.specs.declared.command.Deed.TheVariants.{File, Quota, Template, Autoquota, Admin, Filegroup, Screen, Exception, Reports}
 use Rattle.record_fields.specs.Laws.{Places}
 use Rattle.record_codec.specs.declared.deeds.DeedKind.{DeedKind}
-use Rattle.record_codec.specs.declared.deeds.DeedKind.TheVariants.{File as FileKinds, Quota as QuotaKinds, Template as TemplateKinds, Autoquota as AutoquotaKinds, Setting as SettingKinds, Filegroup as FilegroupKinds, Screen as ScreenKinds, Exception as ExceptionKinds}
+use Rattle.record_codec.specs.declared.deeds.DeedKind.TheVariants.{File as FileKinds, Quota as QuotaKinds, Template as TemplateKinds, Autoquota as AutoquotaKinds, Setting as SettingKinds, Filegroup as FilegroupKinds, Screen as ScreenKinds, Exception as ExceptionKinds, Job as JobKinds}
 use Rattle.record_codec.specs.declared.autoquotas.AutoquotaKind.TheVariants.{Add as AddAutoquota, Delete as DeleteAutoquota}
 use Rattle.record_codec.specs.declared.exceptions.ExceptionKind.TheVariants.{Add as AddException, Delete as DeleteException}
 use Rattle.record_codec.specs.declared.filegroups.FilegroupKind.TheVariants.{Add as AddFilegroup, Modify as ModifyFilegroup, Delete as DeleteFilegroup}
 use Rattle.record_codec.specs.declared.files.FileKind.TheVariants.{Mkdir as MkdirFile, Create as CreateFile, Resize as ResizeFile, Touch as TouchFile, Move as MoveFile, Remove as RemoveFile}
 use Rattle.record_codec.specs.declared.quotas.QuotaKind.TheVariants.{Add as AddQuota, Modify as ModifyQuota, Delete as DeleteQuota, Scan as ScanQuota, Resetpeak as ResetpeakQuota}
+use Rattle.record_codec.specs.declared.reports.JobKind.TheVariants.{Add as AddJob, Delete as DeleteJob, Run as RunJob}
 use Rattle.record_codec.specs.declared.screens.ScreenKind.TheVariants.{Add as AddScreen, Modify as ModifyScreen, Delete as DeleteScreen}
 use Rattle.record_codec.specs.declared.settings.SettingKind.TheVariants.{Options as OptionsSetting}
 use Rattle.record_codec.specs.declared.templates.TemplateKind.TheVariants.{Add as AddTemplate, Modify as ModifyTemplate, Delete as DeleteTemplate}
-use Rattle.record_codec.specs.Deeds.{deed_kind_of, deed_code, deed_kind, deed_values, op_in, quota_in, template_in, autoquota_in, setting_in, filegroup_in, screen_in, exception_in}
+use Rattle.record_codec.specs.Deeds.{deed_kind_of, deed_code, deed_kind, deed_values, op_in, quota_in, template_in, autoquota_in, setting_in, filegroup_in, screen_in, exception_in, job_in}
 use Rattle.record_codec.specs.Autoquotas.{autoquota_kind, autoquota_kind_in, autoquota_deed}
 use Rattle.record_codec.specs.Exceptions.{exception_kind, exception_kind_in, exception_deed}
 use Rattle.record_codec.specs.Filegroups.{filegroup_kind, filegroup_kind_in, filegroup_deed}
 use Rattle.record_codec.specs.Files.{file_kind, file_op}
 use Rattle.record_codec.specs.Quotas.{quota_kind, quota_kind_in, quota_deed}
+use Rattle.record_codec.specs.Reports.{job_kind, job_kind_in, job_deed}
 use Rattle.record_codec.specs.Screens.{screen_kind, screen_kind_in, screen_deed}
 use Rattle.record_codec.specs.Settings.{setting_kind, setting_kind_in, setting_deed}
 use Rattle.record_codec.specs.Templates.{template_kind, template_kind_in, template_deed}
@@ -31,6 +33,7 @@ use Rattle.record_codec.proofs.ExceptionLaws.{exception_home, exception_deed_pla
 use Rattle.record_codec.proofs.FileLaws.{file_home, file_op_places, file_own, file_numbered}
 use Rattle.record_codec.proofs.FilegroupLaws.{filegroup_home, filegroup_deed_places, filegroup_own, filegroup_numbered}
 use Rattle.record_codec.proofs.QuotaLaws.{quota_home, quota_deed_places, quota_own, quota_numbered}
+use Rattle.record_codec.proofs.ReportLaws.{job_home, job_deed_places, job_own, job_numbered}
 use Rattle.record_codec.proofs.ScreenLaws.{screen_home, screen_deed_places, screen_own, screen_numbered}
 use Rattle.record_codec.proofs.SettingLaws.{setting_home, setting_deed_places, setting_own, setting_numbered}
 use Rattle.record_codec.proofs.TemplateLaws.{template_home, template_deed_places, template_own, template_numbered}
@@ -64,6 +67,9 @@ deed_known (ScreenKinds ModifyScreen) = (refl, refl)
 deed_known (ScreenKinds DeleteScreen) = (refl, refl)
 deed_known (ExceptionKinds AddException) = (refl, refl)
 deed_known (ExceptionKinds DeleteException) = (refl, refl)
+deed_known (JobKinds AddJob) = (refl, refl)
+deed_known (JobKinds DeleteJob) = (refl, refl)
+deed_known (JobKinds RunJob) = (refl, refl)
 
 abbrev IsCode : ℕ → DeedKind → Type 0
 IsCode n k = deed_code k ≡ n
@@ -83,7 +89,8 @@ deed_home n k =
     (earlier (IsCode n) SettingKinds (setting_kind n) _ k (setting_home n)
     (earlier (IsCode n) FilegroupKinds (filegroup_kind n) _ k (filegroup_home n)
     (earlier (IsCode n) ScreenKinds (screen_kind n) _ k (screen_home n)
-    (earlier (IsCode n) ExceptionKinds (exception_kind n) _ k (exception_home n) (λ none. absurd (cc none)))))))))
+    (earlier (IsCode n) ExceptionKinds (exception_kind n) _ k (exception_home n)
+    (earlier (IsCode n) JobKinds (job_kind n) _ k (job_home n) (λ none. absurd (cc none))))))))))
 
 -- ---- their values
 pub deed_places : (k : DeedKind) → Places (deed_values k)
@@ -95,6 +102,7 @@ deed_places (SettingKinds k) = one_of_places (λ deed. Admin deed) setting_in (s
 deed_places (FilegroupKinds k) = one_of_places (λ deed. Filegroup deed) filegroup_in (filegroup_deed k) (filegroup_deed_places k) (λ deed. refl) (grind (arith, common_steps))
 deed_places (ScreenKinds k) = one_of_places (λ deed. Screen deed) screen_in (screen_deed k) (screen_deed_places k) (λ deed. refl) (grind (arith, common_steps))
 deed_places (ExceptionKinds k) = one_of_places (λ deed. Exception deed) exception_in (exception_deed k) (exception_deed_places k) (λ deed. refl) (grind (arith, common_steps))
+deed_places (JobKinds k) = one_of_places (λ deed. Reports deed) job_in (job_deed k) (job_deed_places k) (λ deed. refl) (grind (arith, common_steps))
 
 pub deed_own : AreOwn deed_values deed_kind
 deed_own (FileKinds k) (File op) legal = ap (λ j. Some (FileKinds j)) (file_own k op legal)
@@ -105,6 +113,7 @@ deed_own (SettingKinds k) (Admin deed) legal = ap (option_map SettingKinds) (set
 deed_own (FilegroupKinds k) (Filegroup deed) legal = ap (option_map FilegroupKinds) (filegroup_own k deed legal)
 deed_own (ScreenKinds k) (Screen deed) legal = ap (option_map ScreenKinds) (screen_own k deed legal)
 deed_own (ExceptionKinds k) (Exception deed) legal = ap (option_map ExceptionKinds) (exception_own k deed legal)
+deed_own (JobKinds k) (Reports deed) legal = ap (option_map JobKinds) (job_own k deed legal)
 deed_own k other legal = absurd (cc legal)
 
 -- ---- the machine's own kinds
@@ -121,4 +130,5 @@ deed_numbered (Admin deed) = numbered SettingKinds (setting_kind_in deed) ∙ sy
 deed_numbered (Filegroup deed) = numbered FilegroupKinds (filegroup_kind_in deed) ∙ sym (filegroup_numbered deed)
 deed_numbered (Screen deed) = numbered ScreenKinds (screen_kind_in deed) ∙ sym (screen_numbered deed)
 deed_numbered (Exception deed) = numbered ExceptionKinds (exception_kind_in deed) ∙ sym (exception_numbered deed)
+deed_numbered (Reports deed) = numbered JobKinds (job_kind_in deed) ∙ sym (job_numbered deed)
 deed_numbered other = refl

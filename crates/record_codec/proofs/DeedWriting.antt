@@ -5,20 +5,21 @@ use Rattle.std.specs.List.{list_all}
 use Rattle.std.specs.Option.{option_map_or}
 use Rattle.std.proofs.lemmas.Bool.{leb-true}
 use Rattle.fsrm_base.proofs.TestLaws.{both}
-use Rattle.fsrm_model.specs.commands.Commands.{kind, paths, more_bytes, form_of_admin, form_of_autoquota, form_of_exception, form_of_filegroup, form_of_quota, form_of_screen, form_of_template}
+use Rattle.fsrm_model.specs.commands.Commands.{kind, paths, more_bytes, form_of_admin, form_of_autoquota, form_of_exception, form_of_filegroup, form_of_quota, form_of_reports, form_of_screen, form_of_template}
 use Rattle.fsrm_model.specs.commands.Entry.{path_bytes}
 use Rattle.fsrm_model.specs.declared.command.Deed.{Deed}
-use Rattle.fsrm_model.specs.declared.command.Deed.TheVariants.{File, Quota, Template, Autoquota, Admin, Filegroup, Screen, Exception}
+use Rattle.fsrm_model.specs.declared.command.Deed.TheVariants.{File, Quota, Template, Autoquota, Admin, Filegroup, Screen, Exception, Reports}
 use Rattle.fsrm_model.specs.store.Valued.{is_path, is_deed, is_short, is_short_path}
 use Rattle.fsrm_model.specs.values.Limits.{longest_entry}
 use Rattle.record_fields.specs.Formats.{Format, number_spelled}
 use Rattle.record_codec.specs.declared.deeds.DeedKind.{DeedKind}
-use Rattle.record_codec.specs.declared.deeds.DeedKind.TheVariants.{Quota as QuotaKinds, Template as TemplateKinds, Autoquota as AutoquotaKinds, Setting as SettingKinds, Filegroup as FilegroupKinds, Screen as ScreenKinds, Exception as ExceptionKinds}
+use Rattle.record_codec.specs.declared.deeds.DeedKind.TheVariants.{Quota as QuotaKinds, Template as TemplateKinds, Autoquota as AutoquotaKinds, Setting as SettingKinds, Filegroup as FilegroupKinds, Screen as ScreenKinds, Exception as ExceptionKinds, Job as JobKinds}
 use Rattle.record_codec.specs.Deeds.{deed_code, deed_kind, deed_values, deed_spelled}
 use Rattle.record_codec.specs.Autoquotas.{autoquota_kind_in, autoquota_deed, autoquota_spelled_as}
 use Rattle.record_codec.specs.Exceptions.{exception_kind_in, exception_deed, exception_spelled_as}
 use Rattle.record_codec.specs.Filegroups.{filegroup_kind_in, filegroup_deed, filegroup_spelled_as}
 use Rattle.record_codec.specs.Quotas.{quota_kind_in, quota_deed, quota_spelled_as}
+use Rattle.record_codec.specs.Reports.{job_kind_in, job_deed, job_spelled_as}
 use Rattle.record_codec.specs.Screens.{screen_kind_in, screen_deed, screen_spelled_as}
 use Rattle.record_codec.specs.Settings.{setting_kind_in, setting_deed, setting_spelled_as}
 use Rattle.record_codec.specs.Templates.{template_kind_in, template_deed, template_spelled_as}
@@ -28,6 +29,7 @@ use Rattle.record_codec.proofs.ExceptionWriting.{exception_legal, exception_long
 use Rattle.record_codec.proofs.FileWriting.{file_legal, file_bytes}
 use Rattle.record_codec.proofs.FilegroupWriting.{filegroup_legal, filegroup_long}
 use Rattle.record_codec.proofs.QuotaWriting.{quota_legal, quota_long}
+use Rattle.record_codec.proofs.ReportWriting.{job_legal, job_long}
 use Rattle.record_codec.proofs.ScreenWriting.{screen_legal, screen_long}
 use Rattle.record_codec.proofs.SettingLaws.{setting_legal, setting_long}
 use Rattle.record_codec.proofs.TemplateWriting.{template_legal, template_long}
@@ -93,6 +95,10 @@ deed_legal (Exception deed) kinds legal short typed =
     let s = short_of (Exception deed) kinds short in
     let l = both (list_all is_path (form_of_exception deed).paths) (form_of_exception deed).legal legal in
     in_family ExceptionKinds exception_deed (Exception deed) deed (exception_kind_in deed) (λ k. refl) (exception_legal deed l.0 s.0 l.1 typed (omega (arith, s.1)))
+deed_legal (Reports deed) kinds legal short typed =
+    let s = short_of (Reports deed) kinds short in
+    let l = both (list_all is_path (form_of_reports deed).paths) (form_of_reports deed).legal legal in
+    in_family JobKinds job_deed (Reports deed) deed (job_kind_in deed) (λ k. refl) (job_legal deed l.0 s.0 l.1 typed)
 deed_legal other kinds legal short typed = refl
 
 pub deed_long : (deed : Deed) → is_some (deed_kind deed) ≡ true → length (deed_spelled deed) ≡ 1 + (sum_by path_bytes (paths deed) + more_bytes deed)
@@ -104,6 +110,7 @@ deed_long (Admin deed) there = setting_long deed (in_there SettingKinds (setting
 deed_long (Filegroup deed) there = filegroup_long deed (in_there FilegroupKinds (filegroup_kind_in deed) there)
 deed_long (Screen deed) there = screen_long deed (in_there ScreenKinds (screen_kind_in deed) there)
 deed_long (Exception deed) there = exception_long deed (in_there ExceptionKinds (exception_kind_in deed) there)
+deed_long (Reports deed) there = job_long deed (in_there JobKinds (job_kind_in deed) there)
 deed_long other there = absurd (cc there)
 
 pub deed_body : (deed : Deed) → deed_spelled deed ≡ option_map_or (λ k. number_spelled 1 (deed_code k) ++ (deed_values k).spell deed) (deed_kind deed) []
@@ -115,4 +122,5 @@ deed_body (Admin deed) = spelled_so SettingKinds (setting_spelled_as deed) (λ k
 deed_body (Filegroup deed) = spelled_so FilegroupKinds (filegroup_spelled_as deed) (λ k. number_spelled 1 (deed_code k) ++ (deed_values k).spell (Filegroup deed)) (filegroup_kind_in deed) (λ k. refl)
 deed_body (Screen deed) = spelled_so ScreenKinds (screen_spelled_as deed) (λ k. number_spelled 1 (deed_code k) ++ (deed_values k).spell (Screen deed)) (screen_kind_in deed) (λ k. refl)
 deed_body (Exception deed) = spelled_so ExceptionKinds (exception_spelled_as deed) (λ k. number_spelled 1 (deed_code k) ++ (deed_values k).spell (Exception deed)) (exception_kind_in deed) (λ k. refl)
+deed_body (Reports deed) = spelled_so JobKinds (job_spelled_as deed) (λ k. number_spelled 1 (deed_code k) ++ (deed_values k).spell (Reports deed)) (job_kind_in deed) (λ k. refl)
 deed_body other = refl

@@ -9,11 +9,14 @@ use Rattle.std.proofs.lemmas.Slice.Eq.{bytes_eq-Decides}
 use Rattle.fsrm_model.specs.declared.row.Action.{Action}
 use Rattle.fsrm_model.specs.declared.row.ActionKind.{ActionKind}
 use Rattle.fsrm_model.specs.declared.row.ActionKind.TheVariants.{Event, Mail, Program, Report}
+use Rattle.fsrm_model.specs.declared.row.ReportKind.{ReportKind}
+use Rattle.fsrm_model.specs.declared.row.ReportKind.TheVariants.{LargeFiles, FilesByType, LeastRecentlyAccessed, MostRecentlyAccessed, QuotaUsage, FilesByOwner, DuplicateFiles, FileScreenAudit}
 use Rattle.fsrm_model.specs.commands.Entry.{Path}
 use Rattle.fsrm_model.specs.lines.Reading.{Read, path_from}
+use Rattle.fsrm_model.specs.objects.Jobs.{is_schedule}
 use Rattle.fsrm_model.specs.objects.Thresholds.{is_action_text, are_minutes}
 use Rattle.fsrm_model.specs.store.Valued.{is_path}
-use Rattle.fsrm_model.specs.values.Limits.{latest_moment, last_owner, longest_file, least_limit, greatest_limit, greatest_percent, most_minutes, most_patterns, most_excluded}
+use Rattle.fsrm_model.specs.values.Limits.{latest_moment, last_owner, longest_file, least_limit, greatest_limit, greatest_percent, most_minutes, most_patterns, most_excluded, most_days, most_use, most_rows}
 use Rattle.fsrm_model.specs.values.Name.{is_name}
 use Rattle.fsrm_model.specs.values.Patterns.{is_object_name, is_pattern}
 use Rattle.fsrm_model.proofs.lines.PathLaws.{path_writes, path_reads}
@@ -24,7 +27,7 @@ use Rattle.record_fields.proofs.ListLaws.{listed_places}
 use Rattle.record_fields.proofs.NumberLaws.{width_1, width_2, width_8, number_exact, number_field}
 use Rattle.record_fields.proofs.StandingLaws.{picked, within_places, standing_places, standing_field_places, shaped_places, tested_field_places}
 use Rattle.record_fields.proofs.TextLaws.{text_exact, text_field}
-use Rattle.record_codec.specs.Fields.{moment, owner, file_length, limit, percent, run_limit, folder, minutes, minutes_of, minutes_code, action_kind, action_kind_of, action_kind_code, object_name, name, pattern, action_text, path, path_of, path_text, if_read, many, at_least_one, members, non_members, excluded_names, new_action, action_parts, is_new, action_values, action, new_notice, notice_parts, notice}
+use Rattle.record_codec.specs.Fields.{moment, owner, file_length, limit, percent, run_limit, days, least_use, row_count, folder, minutes, minutes_of, minutes_code, action_kind, action_kind_of, action_kind_code, report_kind, report_kind_of, report_kind_code, object_name, name, pattern, action_text, schedule, path, path_of, path_text, if_read, many, at_least_one, members, non_members, excluded_names, new_action, action_parts, is_new, action_values, action, new_notice, notice_parts, notice}
 use Rattle.record_codec.proofs.KindLaws.{chosen}
 use Rattle.record_codec.proofs.PathText.{spells, ascii_text}
 
@@ -46,6 +49,15 @@ percent_places = within_places 8 1 greatest_percent width_8 (omega arith) (omega
 
 pub run_limit_places : Places run_limit
 run_limit_places = within_places 8 0 most_minutes width_8 (omega arith) (omega arith)
+
+pub days_places : Places days
+days_places = within_places 8 0 most_days width_8 (omega arith) (omega arith)
+
+pub least_use_places : Places least_use
+least_use_places = within_places 8 0 most_use width_8 (omega arith) (omega arith)
+
+pub row_count_places : Places row_count
+row_count_places = within_places 8 1 most_rows width_8 (omega arith) (omega arith)
 
 pub folder_places : Places folder
 folder_places = within_places 8 0 (2 ^ 32 - 1) width_8 (omega arith) (omega arith)
@@ -84,6 +96,33 @@ action_kind_home n k =
 pub action_kind_places : Places action_kind
 action_kind_places = standing_field_places action_kind_of action_kind_code (λ k. true) (number 1) (number_exact 1 width_1) (number_field 1) action_kind_there action_kind_home Event refl refl
 
+report_kind_there : (k : ReportKind) → true ≡ true → report_kind_of (report_kind_code k) ≡ Some k
+report_kind_there LargeFiles may = refl
+report_kind_there FilesByType may = refl
+report_kind_there LeastRecentlyAccessed may = refl
+report_kind_there MostRecentlyAccessed may = refl
+report_kind_there QuotaUsage may = refl
+report_kind_there FilesByOwner may = refl
+report_kind_there DuplicateFiles may = refl
+report_kind_there FileScreenAudit may = refl
+
+abbrev IsReportKind : ℕ → ReportKind → Type 0
+IsReportKind n k = (true ≡ true) × (report_kind_code k ≡ n)
+
+report_kind_home : (n : ℕ) (k : ReportKind) → report_kind_of n ≡ Some k → (true ≡ true) × (report_kind_code k ≡ n)
+report_kind_home n k =
+    chosen (IsReportKind n) (nat_eq n 1) LargeFiles k _ (λ e. (refl, sym (eqb-true n 1 e)))
+    (chosen (IsReportKind n) (nat_eq n 2) FilesByType k _ (λ e. (refl, sym (eqb-true n 2 e)))
+    (chosen (IsReportKind n) (nat_eq n 3) LeastRecentlyAccessed k _ (λ e. (refl, sym (eqb-true n 3 e)))
+    (chosen (IsReportKind n) (nat_eq n 4) MostRecentlyAccessed k _ (λ e. (refl, sym (eqb-true n 4 e)))
+    (chosen (IsReportKind n) (nat_eq n 5) QuotaUsage k _ (λ e. (refl, sym (eqb-true n 5 e)))
+    (chosen (IsReportKind n) (nat_eq n 6) FilesByOwner k _ (λ e. (refl, sym (eqb-true n 6 e)))
+    (chosen (IsReportKind n) (nat_eq n 7) DuplicateFiles k _ (λ e. (refl, sym (eqb-true n 7 e)))
+    (chosen (IsReportKind n) (nat_eq n 8) FileScreenAudit k None (λ e. (refl, sym (eqb-true n 8 e))) (λ e. absurd (cc e)))))))))
+
+pub report_kind_places : Places report_kind
+report_kind_places = standing_field_places report_kind_of report_kind_code (λ k. true) (number 1) (number_exact 1 width_1) (number_field 1) report_kind_there report_kind_home LargeFiles refl refl
+
 -- ---- texts
 -- some texts that are legal
 plain_text : (bytes : List ℕ) → nat_lt (length bytes) 65536 ≡ true → list_all (λ b. nat_lt b 128) bytes ≡ true → text.legal bytes ≡ true
@@ -103,6 +142,9 @@ pattern_places = tested_field_places is_pattern text text_exact text_field (code
 
 pub action_text_places : Places action_text
 action_text_places = tested_field_places is_action_text text text_exact text_field [] (plain_text [] refl refl) refl
+
+pub schedule_places : Places schedule
+schedule_places = tested_field_places is_schedule text text_exact text_field [] (plain_text [] refl refl) refl
 
 path_there : (names : Path) → is_path names ≡ true → path_of (path_text names) ≡ Some names
 path_there names may =

@@ -1,5 +1,5 @@
 -- File operations whose values are legal have a spelling, of the length that the definitions count.
-use Rattle.std.proofs.Common.{◌≡◌, ℕ, ◌+◌, true, [], ◌∷◌, length, ◌∙◌, arith}
+use Rattle.std.proofs.Common.{◌≡◌, ◌+◌, true, [], ◌∷◌, length, ◌∙◌, arith}
 use Rattle.std.specs.Prelude.{◌&&◌, sum_by}
 use Rattle.std.specs.List.{list_all}
 use Rattle.fsrm_base.proofs.TestLaws.{both, both_true}
@@ -8,21 +8,14 @@ use Rattle.fsrm_model.specs.commands.Entry.{Path, path_bytes}
 use Rattle.fsrm_model.specs.declared.command.FileOp.{FileOp}
 use Rattle.fsrm_model.specs.declared.command.FileOp.TheVariants.{Mkdir, Create, Resize, Touch, Move, Remove}
 use Rattle.fsrm_model.specs.store.Valued.{is_path, is_op, is_short_path}
-use Rattle.fsrm_model.specs.values.Limits.{last_owner, longest_file}
-use Rattle.record_codec.specs.Fields.{owner, file_length, path}
+use Rattle.record_codec.specs.Fields.{path}
 use Rattle.record_codec.specs.Files.{file_kind_in, file_op, file_spelled}
 use Rattle.record_codec.specs.Typed.{is_path_text}
 use Rattle.record_codec.specs.Writing.{file_typed}
-use Rattle.record_codec.proofs.Legal.{within_legal, from_zero, path_legal, first_path, one_byte, eight_bytes, two, path_long}
+use Rattle.record_codec.proofs.Legal.{owner_legal, length_legal, path_legal, first_path, one_byte, eight_bytes, two, path_long}
 
 one_path : (p : Path) → list_all is_path (p ∷ []) ≡ true → list_all is_short_path (p ∷ []) ≡ true → list_all is_path_text (p ∷ []) ≡ true → path.legal p ≡ true
 one_path p names short utf8 = first_path p names short (both (is_path_text p) true utf8).0
-
-owner_legal : (n : ℕ) → is_owner n ≡ true → owner.legal n ≡ true
-owner_legal n is = within_legal 1 last_owner n (omega arith) is
-
-length_legal : (n : ℕ) → is_length n ≡ true → file_length.legal n ≡ true
-length_legal n is = within_legal 0 longest_file n (omega arith) (from_zero longest_file n is)
 
 pub file_legal : (op : FileOp) → is_op op ≡ true → list_all is_short_path (paths_of_op op) ≡ true → file_typed op ≡ true → (file_op (file_kind_in op)).legal op ≡ true
 file_legal (Mkdir at who) legal short text =

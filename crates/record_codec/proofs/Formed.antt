@@ -6,19 +6,22 @@ use Rattle.std.specs.Option.{option_map_or}
 use Rattle.std.specs.Str.{is_utf8}
 use Rattle.std.proofs.lemmas.Bool.{lt-ltb, ltb-true, leb-true, le-leb}
 use Rattle.fsrm_base.proofs.TestLaws.{both, both_true}
-use Rattle.fsrm_model.specs.commands.Commands.{is_owner, is_length, are_some_names, are_new_thresholds}
+use Rattle.fsrm_model.specs.commands.Commands.{is_owner, is_length, is_filter, are_some_names, are_new_thresholds}
 use Rattle.fsrm_model.specs.commands.Entry.{Path}
 use Rattle.fsrm_model.specs.declared.command.Added.{Added}
 use Rattle.fsrm_model.specs.declared.command.NewThresholds.{NewThresholds}
 use Rattle.fsrm_model.specs.declared.row.Action.{Action}
+use Rattle.fsrm_model.specs.declared.row.Filter.{Filter}
+use Rattle.fsrm_model.specs.objects.Jobs.{is_schedule}
 use Rattle.fsrm_model.specs.objects.Quota.{is_limit}
 use Rattle.fsrm_model.specs.objects.Thresholds.{is_percent, are_minutes, is_action_text, is_new_action, is_notice}
 use Rattle.fsrm_model.specs.store.Valued.{is_path, is_short_path}
-use Rattle.fsrm_model.specs.values.Limits.{last_owner, longest_file, least_limit, greatest_limit, greatest_percent, longest_path, most_patterns, most_excluded}
+use Rattle.fsrm_model.specs.values.Limits.{last_owner, longest_file, least_limit, greatest_limit, greatest_percent, longest_path, most_patterns, most_excluded, most_days, most_use, most_rows}
 use Rattle.fsrm_model.specs.values.Name.{is_name}
 use Rattle.fsrm_model.specs.values.Patterns.{is_object_name, is_pattern, are_members, are_non_members}
 use Rattle.record_fields.specs.Formats.{Format, is_within, number, number_legal, number_within, text, optional_legal, listed}
-use Rattle.record_codec.specs.Fields.{owner, file_length, limit, percent, minutes, minutes_code, action_kind, action_text, action, is_new, action_values, action_parts, notice, object_name, name, pattern, path, path_text, many, at_least_one, members, non_members, excluded_names}
+use Rattle.record_codec.specs.Fields.{owner, file_length, limit, percent, minutes, minutes_code, action_kind, action_text, action, is_new, action_values, action_parts, notice, object_name, name, pattern, schedule, days, least_use, row_count, path, path_text, many, at_least_one, members, non_members, excluded_names}
+use Rattle.record_codec.specs.Filters.{filter}
 use Rattle.record_codec.specs.Notices.{new_thresholds}
 
 -- ---- numbers
@@ -49,6 +52,9 @@ name_formed t legal = (both (text.legal t) (is_name t) legal).1
 
 pattern_formed : (t : List ℕ) → pattern.legal t ≡ true → is_pattern t ≡ true
 pattern_formed t legal = (both (text.legal t) (is_pattern t) legal).1
+
+pub schedule_formed : (t : List ℕ) → schedule.legal t ≡ true → is_schedule t ≡ true
+schedule_formed t legal = (both (text.legal t) (is_schedule t) legal).1
 
 path_formed : (p : Path) → path.legal p ≡ true → (is_path p ≡ true) × (is_short_path p ≡ true)
 path_formed p legal =
@@ -141,3 +147,18 @@ limit_or_formed (Some n) None given legal = (limit_formed n given, refl)
 limit_or_formed (Some n) (Some t) given legal = (limit_formed n given, object_name_formed t legal)
 limit_or_formed None (Some t) given legal = (refl, object_name_formed t legal)
 limit_or_formed None None given legal = absurd (cc legal)
+
+-- ---- what a report is asked for
+pub filter_formed : (f : Filter) → filter.legal f ≡ true → is_filter f ≡ true
+filter_formed f legal =
+    let rest = optional_legal false days f.days && (optional_legal false least_use f.min_use && row_count.legal f.max) in
+    let a = both (optional_legal false owner f.owner) (optional_legal false pattern f.pattern && (optional_legal false file_length f.min_size && rest)) legal in
+    let b = both (optional_legal false pattern f.pattern) (optional_legal false file_length f.min_size && rest) a.1 in
+    let c = both (optional_legal false file_length f.min_size) rest b.1 in
+    let d = both (optional_legal false days f.days) (optional_legal false least_use f.min_use && row_count.legal f.max) c.1 in
+    let e = both (optional_legal false least_use f.min_use) (row_count.legal f.max) d.1 in
+    both_true _ _
+    (both_true _ _ (given_formed owner is_owner owner_formed f.owner a.0)
+    (both_true _ _ (given_formed pattern is_pattern pattern_formed f.pattern b.0) (given_formed file_length is_length length_formed f.min_size c.0)))
+    (both_true _ _ (both_true _ _ (given_formed days _ (most_formed most_days) f.days d.0) (given_formed least_use _ (most_formed most_use) f.min_use e.0))
+    (within_formed 1 most_rows f.max e.1))

@@ -6,20 +6,21 @@ use Rattle.std.specs.Str.{is_utf8}
 use Rattle.std.proofs.lemmas.Bool.{lt-ltb, ltb-true, leb-true, le-leb}
 use Rattle.std.proofs.lemmas.List.Sums.{sum_by-cons}
 use Rattle.fsrm_base.proofs.TestLaws.{both, both_true}
-use Rattle.fsrm_model.specs.commands.Commands.{are_some_names}
+use Rattle.fsrm_model.specs.commands.Commands.{is_owner, is_length, are_some_names}
 use Rattle.fsrm_model.specs.commands.Entry.{Path, path_bytes, text_bytes, notice_bytes, screen_notice_bytes, counted, optional as optional_bytes}
 use Rattle.fsrm_model.specs.declared.command.Added.{Added}
 use Rattle.fsrm_model.specs.declared.row.Action.{Action}
 use Rattle.fsrm_model.specs.declared.row.ActionKind.{ActionKind}
 use Rattle.fsrm_model.specs.declared.row.ActionKind.TheVariants.{Event, Mail, Program, Report}
+use Rattle.fsrm_model.specs.objects.Jobs.{is_schedule}
 use Rattle.fsrm_model.specs.objects.Quota.{is_limit}
 use Rattle.fsrm_model.specs.objects.Thresholds.{is_percent, is_printing, are_minutes, is_action, is_action_text, is_new_action, is_notice}
 use Rattle.fsrm_model.specs.store.Valued.{is_path, is_short_path}
-use Rattle.fsrm_model.specs.values.Limits.{least_limit, greatest_limit, greatest_percent, longest_path, longest_name, longest_action_text, most_minutes, most_patterns, most_excluded}
+use Rattle.fsrm_model.specs.values.Limits.{last_owner, longest_file, least_limit, greatest_limit, greatest_percent, longest_path, longest_name, longest_action_text, longest_schedule, most_minutes, most_patterns, most_excluded}
 use Rattle.fsrm_model.specs.values.Name.{is_name, is_name_byte}
 use Rattle.fsrm_model.specs.values.Patterns.{is_object_name, is_object_byte, is_pattern, is_pattern_byte, are_members, are_non_members}
 use Rattle.record_fields.specs.Formats.{Format, is_within, number_within, text, listed, number_spelled, text_spelled, truth, truth_code, optional_spelled, listed_spelled}
-use Rattle.record_codec.specs.Fields.{limit, percent, minutes, action_kind, action_text, action, notice, object_name, name, pattern, path, path_text, many, at_least_one, members, non_members, excluded_names}
+use Rattle.record_codec.specs.Fields.{owner, file_length, limit, percent, minutes, action_kind, action_text, schedule, action, notice, object_name, name, pattern, path, path_text, many, at_least_one, members, non_members, excluded_names}
 use Rattle.record_codec.specs.Typed.{all_typed, is_path_text, action_typed, notice_typed}
 
 -- ---- numbers and choices
@@ -29,6 +30,12 @@ within_legal low high n fits inside =
 
 pub from_zero : (high n : ℕ) → nat_le n high ≡ true → is_within 0 high n ≡ true
 from_zero high n most = both_true _ _ (le-leb 0 n (omega arith)) most
+
+pub owner_legal : (n : ℕ) → is_owner n ≡ true → owner.legal n ≡ true
+owner_legal n is = within_legal 1 last_owner n (omega arith) is
+
+pub length_legal : (n : ℕ) → is_length n ≡ true → file_length.legal n ≡ true
+length_legal n is = within_legal 0 longest_file n (omega arith) (from_zero longest_file n is)
 
 pub limit_legal : (n : ℕ) → is_limit n ≡ true → limit.legal n ≡ true
 limit_legal n is = within_legal least_limit greatest_limit n (omega arith) is
@@ -76,6 +83,11 @@ action_text_legal : (t : List ℕ) → is_action_text t ≡ true → is_utf8 t �
 action_text_legal t is utf8 =
     let l = both (nat_le (length t) longest_action_text) (list_all is_printing t) is in
     both_true _ _ (both_true _ _ (lt-ltb (length t) 65536 (omega (arith, leb-true _ longest_action_text l.0))) utf8) is
+
+pub schedule_legal : (t : List ℕ) → is_schedule t ≡ true → is_utf8 t ≡ true → schedule.legal t ≡ true
+schedule_legal t is utf8 =
+    let l = both (nat_le (length t) longest_schedule) (list_all is_printing t) is in
+    both_true _ _ (both_true _ _ (lt-ltb (length t) 65536 (omega (arith, leb-true _ longest_schedule l.0))) utf8) is
 
 pub path_legal : (p : Path) → is_path p ≡ true → is_short_path p ≡ true → is_path_text p ≡ true → path.legal p ≡ true
 path_legal p names short utf8 =

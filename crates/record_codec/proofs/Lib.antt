@@ -13,6 +13,7 @@ pub mod FileLaws
 pub mod FileWriting
 pub mod FilegroupLaws
 pub mod FilegroupWriting
+pub mod FilterLaws
 pub mod Formed
 pub mod KindLaws
 pub mod KindWriting
@@ -23,6 +24,8 @@ pub mod PathText
 pub mod QuotaLaws
 pub mod QuotaWriting
 pub mod RecordBodies
+pub mod ReportLaws
+pub mod ReportWriting
 pub mod ScreenLaws
 pub mod ScreenWriting
 pub mod SettingLaws

@@ -8,20 +8,20 @@ use Rattle.fsrm_base.proofs.TestLaws.{both, both_true}
 use Rattle.fsrm_model.specs.commands.Commands.{kind, paths, has_values, more_bytes}
 use Rattle.fsrm_model.specs.commands.Entry.{path_bytes}
 use Rattle.fsrm_model.specs.declared.command.Deed.{Deed}
-use Rattle.fsrm_model.specs.declared.command.Deed.TheVariants.{File, Quota, Template, Autoquota, Admin, Filegroup, Screen, Exception}
+use Rattle.fsrm_model.specs.declared.command.Deed.TheVariants.{File, Quota, Template, Autoquota, Admin, Filegroup, Screen, Exception, Reports}
 use Rattle.fsrm_model.specs.declared.command.Entry.{Entry}
 use Rattle.fsrm_model.specs.declared.command.Entry.TheVariants.{Order, Finish}
 use Rattle.fsrm_model.specs.store.Valued.{is_short, is_short_path}
 use Rattle.fsrm_model.specs.values.Limits.{latest_moment, longest_entry}
 use Rattle.record_codec.specs.declared.deeds.DeedKind.{DeedKind}
-use Rattle.record_codec.specs.declared.deeds.DeedKind.TheVariants.{File as FileKinds, Quota as QuotaKinds, Template as TemplateKinds, Autoquota as AutoquotaKinds, Setting as SettingKinds, Filegroup as FilegroupKinds, Screen as ScreenKinds, Exception as ExceptionKinds}
+use Rattle.record_codec.specs.declared.deeds.DeedKind.TheVariants.{File as FileKinds, Quota as QuotaKinds, Template as TemplateKinds, Autoquota as AutoquotaKinds, Setting as SettingKinds, Filegroup as FilegroupKinds, Screen as ScreenKinds, Exception as ExceptionKinds, Job as JobKinds}
 use Rattle.record_codec.specs.declared.kinds.Kind.TheVariants.{Deed as DeedKinds}
 use Rattle.record_codec.specs.Deeds.{deed_code, deed_kind, deed_values}
 use Rattle.record_codec.specs.Entries.{Does, Finishes, entry_kind, values, body}
 use Rattle.record_codec.specs.Fields.{moment}
 use Rattle.record_codec.specs.Kinds.{tagged_legal}
 use Rattle.record_codec.specs.Writing.{IsWritable, IsSpelled, entry_typed}
-use Rattle.record_codec.proofs.DeedForms.{AreFormed, file_formed, quota_formed, template_formed, autoquota_formed, setting_formed, filegroup_formed, screen_formed, exception_formed}
+use Rattle.record_codec.proofs.DeedForms.{AreFormed, file_formed, quota_formed, template_formed, autoquota_formed, setting_formed, filegroup_formed, screen_formed, exception_formed, job_formed}
 use Rattle.record_codec.proofs.DeedLaws.{deed_numbered}
 use Rattle.record_codec.proofs.DeedWriting.{deed_long}
 use Rattle.record_codec.proofs.EntryWriting.{body_spelled, writable_legal, writable_room}
@@ -37,6 +37,7 @@ deed_formed (SettingKinds k) (Admin deed) legal = setting_formed k deed legal
 deed_formed (FilegroupKinds k) (Filegroup deed) legal = filegroup_formed k deed legal
 deed_formed (ScreenKinds k) (Screen deed) legal = screen_formed k deed legal
 deed_formed (ExceptionKinds k) (Exception deed) legal = exception_formed k deed legal
+deed_formed (JobKinds k) (Reports deed) legal = job_formed k deed legal
 deed_formed k other legal = absurd (cc legal)
 
 -- a deed with a spelling has a kind, and its values are legal

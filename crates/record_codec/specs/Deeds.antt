@@ -2,23 +2,25 @@
 use Rattle.std.specs.Prelude.{ℕ, List, [], Option, Some, None, option_map}
 use Rattle.std.specs.Option.{option_or}
 use Rattle.fsrm_model.specs.declared.command.Deed.{Deed}
-use Rattle.fsrm_model.specs.declared.command.Deed.TheVariants.{File, Quota, Template, Autoquota, Admin, Filegroup, Screen, Exception}
+use Rattle.fsrm_model.specs.declared.command.Deed.TheVariants.{File, Quota, Template, Autoquota, Admin, Filegroup, Screen, Exception, Reports}
 use Rattle.fsrm_model.specs.declared.command.AdminDeed.{AdminDeed}
 use Rattle.fsrm_model.specs.declared.command.AutoquotaDeed.{AutoquotaDeed}
 use Rattle.fsrm_model.specs.declared.command.ExceptionDeed.{ExceptionDeed}
 use Rattle.fsrm_model.specs.declared.command.FileOp.{FileOp}
 use Rattle.fsrm_model.specs.declared.command.FilegroupDeed.{FilegroupDeed}
 use Rattle.fsrm_model.specs.declared.command.QuotaDeed.{QuotaDeed}
+use Rattle.fsrm_model.specs.declared.command.ReportsDeed.{ReportsDeed}
 use Rattle.fsrm_model.specs.declared.command.ScreenDeed.{ScreenDeed}
 use Rattle.fsrm_model.specs.declared.command.TemplateDeed.{TemplateDeed}
 use Rattle.record_fields.specs.Formats.{Format}
 use Rattle.record_codec.specs.declared.deeds.DeedKind.{DeedKind}
-use Rattle.record_codec.specs.declared.deeds.DeedKind.TheVariants.{File as FileKinds, Quota as QuotaKinds, Template as TemplateKinds, Autoquota as AutoquotaKinds, Setting as SettingKinds, Filegroup as FilegroupKinds, Screen as ScreenKinds, Exception as ExceptionKinds}
+use Rattle.record_codec.specs.declared.deeds.DeedKind.TheVariants.{File as FileKinds, Quota as QuotaKinds, Template as TemplateKinds, Autoquota as AutoquotaKinds, Setting as SettingKinds, Filegroup as FilegroupKinds, Screen as ScreenKinds, Exception as ExceptionKinds, Job as JobKinds}
 use Rattle.record_codec.specs.Autoquotas.{autoquota_kind, autoquota_code, autoquota_kind_in, autoquota_deed, autoquota_spelled}
 use Rattle.record_codec.specs.Exceptions.{exception_kind, exception_code, exception_kind_in, exception_deed, exception_spelled}
 use Rattle.record_codec.specs.Filegroups.{filegroup_kind, filegroup_code, filegroup_kind_in, filegroup_deed, filegroup_spelled}
 use Rattle.record_codec.specs.Files.{file_kind, file_code, file_kind_in, file_op, file_spelled}
 use Rattle.record_codec.specs.Quotas.{quota_kind, quota_code, quota_kind_in, quota_deed, quota_spelled}
+use Rattle.record_codec.specs.Reports.{job_kind, job_code, job_kind_in, job_deed, job_spelled}
 use Rattle.record_codec.specs.Screens.{screen_kind, screen_code, screen_kind_in, screen_deed, screen_spelled}
 use Rattle.record_codec.specs.Settings.{setting_kind, setting_code, setting_kind_in, setting_deed, setting_spelled}
 use Rattle.record_codec.specs.Templates.{template_kind, template_code, template_kind_in, template_deed, template_spelled}
@@ -34,7 +36,8 @@ deed_kind_of n =
     (option_or (option_map SettingKinds (setting_kind n))
     (option_or (option_map FilegroupKinds (filegroup_kind n))
     (option_or (option_map ScreenKinds (screen_kind n))
-    (option_or (option_map ExceptionKinds (exception_kind n)) None)))))))
+    (option_or (option_map ExceptionKinds (exception_kind n))
+    (option_or (option_map JobKinds (job_kind n)) None))))))))
 
 abbrev pub deed_code : DeedKind → ℕ
 deed_code (FileKinds k) = file_code k
@@ -45,6 +48,7 @@ deed_code (SettingKinds k) = setting_code k
 deed_code (FilegroupKinds k) = filegroup_code k
 deed_code (ScreenKinds k) = screen_code k
 deed_code (ExceptionKinds k) = exception_code k
+deed_code (JobKinds k) = job_code k
 
 -- the kind of a deed, if its entry has one
 abbrev pub deed_kind : Deed → Option DeedKind
@@ -56,6 +60,7 @@ deed_kind (Admin deed) = option_map SettingKinds (setting_kind_in deed)
 deed_kind (Filegroup deed) = option_map FilegroupKinds (filegroup_kind_in deed)
 deed_kind (Screen deed) = option_map ScreenKinds (screen_kind_in deed)
 deed_kind (Exception deed) = option_map ExceptionKinds (exception_kind_in deed)
+deed_kind (Reports deed) = option_map JobKinds (job_kind_in deed)
 deed_kind other = None
 
 -- ---- the values of each kind
@@ -91,6 +96,10 @@ abbrev pub exception_in : Deed → Option ExceptionDeed
 exception_in (Exception deed) = Some deed
 exception_in other = None
 
+abbrev pub job_in : Deed → Option ReportsDeed
+job_in (Reports deed) = Some deed
+job_in other = None
+
 abbrev pub deed_values : DeedKind → Format Deed
 deed_values (FileKinds k) = one_of (λ deed. File deed) op_in (file_op k)
 deed_values (QuotaKinds k) = one_of (λ deed. Quota deed) quota_in (quota_deed k)
@@ -100,6 +109,7 @@ deed_values (SettingKinds k) = one_of (λ deed. Admin deed) setting_in (setting_
 deed_values (FilegroupKinds k) = one_of (λ deed. Filegroup deed) filegroup_in (filegroup_deed k)
 deed_values (ScreenKinds k) = one_of (λ deed. Screen deed) screen_in (screen_deed k)
 deed_values (ExceptionKinds k) = one_of (λ deed. Exception deed) exception_in (exception_deed k)
+deed_values (JobKinds k) = one_of (λ deed. Reports deed) job_in (job_deed k)
 
 -- a deed after its kind, if its entry has one
 abbrev pub deed_spelled : Deed → List ℕ
@@ -111,4 +121,5 @@ deed_spelled (Admin deed) = setting_spelled deed
 deed_spelled (Filegroup deed) = filegroup_spelled deed
 deed_spelled (Screen deed) = screen_spelled deed
 deed_spelled (Exception deed) = exception_spelled deed
+deed_spelled (Reports deed) = job_spelled deed
 deed_spelled other = []

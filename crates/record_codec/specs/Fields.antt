@@ -5,11 +5,14 @@ use Rattle.fsrm_model.specs.declared.command.Added.{Added}
 use Rattle.fsrm_model.specs.declared.row.Action.{Action}
 use Rattle.fsrm_model.specs.declared.row.ActionKind.{ActionKind}
 use Rattle.fsrm_model.specs.declared.row.ActionKind.TheVariants.{Event, Mail, Program, Report}
+use Rattle.fsrm_model.specs.declared.row.ReportKind.{ReportKind}
+use Rattle.fsrm_model.specs.declared.row.ReportKind.TheVariants.{LargeFiles, FilesByType, LeastRecentlyAccessed, MostRecentlyAccessed, QuotaUsage, FilesByOwner, DuplicateFiles, FileScreenAudit}
 use Rattle.fsrm_model.specs.commands.Entry.{Path}
-use Rattle.fsrm_model.specs.values.Limits.{latest_moment, last_owner, longest_file, least_limit, greatest_limit, greatest_percent, most_minutes, most_patterns, most_excluded}
+use Rattle.fsrm_model.specs.values.Limits.{latest_moment, last_owner, longest_file, least_limit, greatest_limit, greatest_percent, most_minutes, most_patterns, most_excluded, most_days, most_use, most_rows}
 use Rattle.fsrm_model.specs.values.Name.{is_name}
 use Rattle.fsrm_model.specs.values.Patterns.{is_object_name, is_pattern}
 use Rattle.fsrm_model.specs.lines.Reading.{Read, path_from}
+use Rattle.fsrm_model.specs.objects.Jobs.{is_schedule}
 use Rattle.fsrm_model.specs.objects.Thresholds.{is_action_text, are_minutes}
 use Rattle.fsrm_model.specs.store.Valued.{is_path}
 use Rattle.record_fields.specs.Formats.{Format, number, number_within, text, standing, shaped, tested, choice, ◌⊗◌, listed}
@@ -32,6 +35,16 @@ percent = number_within 8 1 greatest_percent
 
 abbrev pub run_limit : Format ℕ
 run_limit = number_within 8 0 most_minutes
+
+-- how many days a report looks back, the least percentage of a limit that it shows, and how many rows it may have
+abbrev pub days : Format ℕ
+days = number_within 8 0 most_days
+
+abbrev pub least_use : Format ℕ
+least_use = number_within 8 0 most_use
+
+abbrev pub row_count : Format ℕ
+row_count = number_within 8 1 most_rows
 
 -- a folder's number
 abbrev pub folder : Format ℕ
@@ -65,6 +78,31 @@ action_kind_code Report = 4
 abbrev pub action_kind : Format ActionKind
 action_kind = choice action_kind_of action_kind_code (λ k. true)
 
+-- what a report is about, in one byte
+abbrev pub report_kind_of : ℕ → Option ReportKind
+report_kind_of n =
+    if n == 1 then Some LargeFiles
+    else if n == 2 then Some FilesByType
+    else if n == 3 then Some LeastRecentlyAccessed
+    else if n == 4 then Some MostRecentlyAccessed
+    else if n == 5 then Some QuotaUsage
+    else if n == 6 then Some FilesByOwner
+    else if n == 7 then Some DuplicateFiles
+    else if n == 8 then Some FileScreenAudit else None
+
+abbrev pub report_kind_code : ReportKind → ℕ
+report_kind_code LargeFiles = 1
+report_kind_code FilesByType = 2
+report_kind_code LeastRecentlyAccessed = 3
+report_kind_code MostRecentlyAccessed = 4
+report_kind_code QuotaUsage = 5
+report_kind_code FilesByOwner = 6
+report_kind_code DuplicateFiles = 7
+report_kind_code FileScreenAudit = 8
+
+abbrev pub report_kind : Format ReportKind
+report_kind = choice report_kind_of report_kind_code (λ k. true)
+
 -- ---- texts
 abbrev pub object_name : Format (List ℕ)
 object_name = tested is_object_name text
@@ -77,6 +115,9 @@ pattern = tested is_pattern text
 
 abbrev pub action_text : Format (List ℕ)
 action_text = tested is_action_text text
+
+abbrev pub schedule : Format (List ℕ)
+schedule = tested is_schedule text
 
 -- a path is spelled D:\ and its names, without a last backslash
 abbrev pub path_text : Path → List ℕ

@@ -6,10 +6,12 @@ pub mod Exceptions
 pub mod Fields
 pub mod Filegroups
 pub mod Files
+pub mod Filters
 pub mod Kinds
 pub mod Notices
 pub mod Paths
 pub mod Quotas
+pub mod Reports
 pub mod Screens
 pub mod Settings
 pub mod Templates

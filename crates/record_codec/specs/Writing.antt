@@ -3,7 +3,7 @@ use Rattle.std.specs.Prelude.{◌≡◌, ◌-◌, ◌≤◌, ◌^◌, nat_le, �
 use Rattle.std.specs.List.{list_all}
 use Rattle.fsrm_model.specs.commands.Commands.{kind, paths_of_op}
 use Rattle.fsrm_model.specs.declared.command.Deed.{Deed}
-use Rattle.fsrm_model.specs.declared.command.Deed.TheVariants.{File, Quota, Template, Autoquota, Filegroup, Screen, Exception}
+use Rattle.fsrm_model.specs.declared.command.Deed.TheVariants.{File, Quota, Template, Autoquota, Filegroup, Screen, Exception, Reports}
 use Rattle.fsrm_model.specs.declared.command.Entry.{Entry}
 use Rattle.fsrm_model.specs.declared.command.Entry.TheVariants.{Order, Finish}
 use Rattle.fsrm_model.specs.declared.command.FileOp.{FileOp}
@@ -18,6 +18,7 @@ use Rattle.record_codec.specs.Entries.{entry}
 use Rattle.record_codec.specs.Exceptions.{exception_typed}
 use Rattle.record_codec.specs.Filegroups.{filegroup_typed}
 use Rattle.record_codec.specs.Quotas.{quota_typed}
+use Rattle.record_codec.specs.Reports.{job_typed}
 use Rattle.record_codec.specs.Screens.{screen_typed}
 use Rattle.record_codec.specs.Templates.{template_typed}
 use Rattle.record_codec.specs.Typed.{is_path_text}
@@ -53,6 +54,7 @@ deed_typed (Autoquota deed) = autoquota_typed deed
 deed_typed (Filegroup deed) = filegroup_typed deed
 deed_typed (Screen deed) = screen_typed deed
 deed_typed (Exception deed) = exception_typed deed
+deed_typed (Reports deed) = job_typed deed
 deed_typed other = true
 
 abbrev pub entry_typed : Entry → Bool

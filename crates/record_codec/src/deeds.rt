@@ -11,6 +11,7 @@ use crate::exceptions::{ExceptionKind, put_exception_deed, read_exception_deed};
 use crate::filegroups::{FilegroupKind, put_filegroup_deed, read_filegroup_deed};
 use crate::files::{FileKind, put_op, read_op};
 use crate::quotas::{QuotaKind, put_quota_deed, read_quota_deed};
+use crate::reports::{JobKind, put_job_deed, read_job_deed};
 use crate::screens::{ScreenKind, put_screen_deed, read_screen_deed};
 use crate::settings::{SettingKind, put_setting, read_setting};
 use crate::templates::{TemplateKind, put_template_deed, read_template_deed};
@@ -29,6 +30,7 @@ pub enum DeedKind {
     Filegroup(FilegroupKind),
     Screen(ScreenKind),
     Exception(ExceptionKind),
+    Job(JobKind),
 }
 
 impl DeedKind {
@@ -59,6 +61,9 @@ impl DeedKind {
         }
         if let Some(kind) = ExceptionKind::of(byte) {
             return Some(DeedKind::Exception(kind));
+        }
+        if let Some(kind) = JobKind::of(byte) {
+            return Some(DeedKind::Job(kind));
         }
         None
     }
@@ -96,6 +101,10 @@ pub fn read_deed(alloc: Global, reader: &mut Reader<'_>, kind: DeedKind) -> Resu
             let deed = read_exception_deed(alloc, reader, kind)?;
             Deed::Exception(Boxed::new(alloc, deed)?)
         }
+        DeedKind::Job(kind) => {
+            let deed = read_job_deed(alloc, reader, kind)?;
+            Deed::Reports(Boxed::new(alloc, deed)?)
+        }
     })
 }
 
@@ -114,6 +123,7 @@ pub fn put_deed(deed: &Deed, into: &mut [u8], at: usize) -> usize
         Deed::Filegroup(deed) => put_filegroup_deed(deed.as_ref(), into, at),
         Deed::Screen(deed) => put_screen_deed(deed.as_ref(), into, at),
         Deed::Exception(deed) => put_exception_deed(deed.as_ref(), into, at),
+        Deed::Reports(deed) => put_job_deed(deed.as_ref(), into, at),
         Deed::Usage { .. } => at,
         Deed::Step { .. } => at,
     }

@@ -1,6 +1,7 @@
 //! Kinds of fields that lists and optional values are of.
 
 ghost use Rattle.std.specs.Prelude.{◌≡◌, ℕ, Bool, List as Items};
+ghost use Rattle.fsrm_model.specs.objects.Jobs.{is_schedule};
 ghost use Rattle.fsrm_model.specs.objects.Thresholds.{is_action_text};
 ghost use Rattle.fsrm_model.specs.values.Name.{is_name};
 ghost use Rattle.fsrm_model.specs.values.Patterns.{is_object_name, is_pattern};
@@ -18,7 +19,7 @@ use record_fields::{
 };
 use std::alloc::Global;
 use std::marker::PhantomData;
-use text_rules::{is_action_text, is_object_name};
+use text_rules::{is_action_text, is_object_name, is_schedule};
 
 /// A limit of a quota.
 pub struct LimitField;
@@ -89,7 +90,7 @@ impl<R: TextRule> Field for RuledTextField<R> {
     }
 }
 
-/// What the name of a template or of a file group meets.
+/// What the name of a template, a file group or a report job meets.
 pub struct ObjectNameRule;
 
 impl TextRule for ObjectNameRule {
@@ -100,7 +101,7 @@ impl TextRule for ObjectNameRule {
     }
 }
 
-/// The name of a template or of a file group.
+/// The name of a template, a file group or a report job.
 pub type ObjectNameField = RuledTextField<ObjectNameRule>;
 
 /// What the name of a node meets.
@@ -144,6 +145,20 @@ impl TextRule for ActionTextRule {
 
 /// The text of an action.
 pub type ActionTextField = RuledTextField<ActionTextRule>;
+
+/// What the schedule of a report job meets.
+pub struct ScheduleRule;
+
+impl TextRule for ScheduleRule {
+    ghost meets = { is_schedule };
+
+    fn is_met(text: &str) -> bool {
+        is_schedule(text)
+    }
+}
+
+/// The schedule of a report job.
+pub type ScheduleField = RuledTextField<ScheduleRule>;
 
 /// The members of a file group: 1 to 64 patterns.
 pub struct MembersField;
