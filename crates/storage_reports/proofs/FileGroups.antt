@@ -10,7 +10,7 @@ use Rattle.fsrm_model.specs.declared.row.Capacity.{Capacity}
 use Rattle.fsrm_model.specs.declared.row.NodeRow.{NodeRow}
 use Rattle.fsrm_model.specs.values.Space.{alloc, space}
 use Rattle.storage_reports.specs.Files.{Fits, Sums, first_number, no_files, sums, with_file}
-use Rattle.storage_reports.specs.Groups.{groups, items_of}
+use Rattle.fsrm_model.specs.reports.Groups.{groups, items_of}
 use Rattle.storage_reports.proofs.Grouping.{groups-look, groups-push}
 
 push_sum : (f : NodeRow → ℕ) (xs : List NodeRow) (x : NodeRow) → sum_by f (xs ++ x ∷ []) ≡ sum_by f xs + f x

@@ -12,3 +12,4 @@ pub mod TypeLaws
 pub mod SeenKeys
 pub mod Weak
 pub mod QuotaLaws
+pub mod FilterParts

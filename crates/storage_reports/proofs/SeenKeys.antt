@@ -2,7 +2,7 @@
 use Rattle.std.proofs.Common.{◌≡◌, Bool, true, false, cond, List, [], ◌∷◌, map, Option, Some, refl, ◌∙◌, ap}
 use Rattle.std.specs.Map.{lookup}
 use Rattle.indexmap.specs.IndexMap.{insert_entry}
-use Rattle.storage_reports.specs.Groups.{with_value}
+use Rattle.fsrm_model.specs.reports.Groups.{with_value}
 
 module _ {K S V : Type 0} (eq : K → K → Bool) (same : S → S → Bool) (value : K → S) (agrees : (a b : K) → eq a b ≡ same (value a) (value b)) where
   pub insert-seen : (es : List (K × V)) (k : K) (v : V) → map (with_value value) (insert_entry eq es k v) ≡ insert_entry same (map (with_value value) es) (value k) v

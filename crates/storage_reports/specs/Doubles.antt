@@ -4,7 +4,7 @@ use Rattle.std.specs.String.{string_bytes}
 use Rattle.fsrm_model.specs.declared.report.ReportRow.{ReportRow}
 use Rattle.fsrm_model.specs.declared.report.ReportRow.TheVariants.{File}
 use Rattle.storage_reports.specs.declared.doubles.FileKey.{FileKey}
-use Rattle.storage_reports.specs.declared.sums.Sums.{Sums}
+use Rattle.fsrm_model.specs.declared.report.Sums.{Sums}
 
 -- what is seen of a key
 abbrev pub file_value : FileKey → List ℕ

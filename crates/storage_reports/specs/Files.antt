@@ -11,41 +11,17 @@ use Rattle.fsrm_model.specs.store.Valid.{IsVolume}
 use Rattle.fsrm_base.specs.Keyed.{has_row}
 use Rattle.volume_tree.specs.Volume.{Volume}
 use Rattle.storage_reports.specs.Walk.{is_marked}
-pub use Rattle.storage_reports.specs.declared.sums.Sums.{Sums}
+pub use Rattle.fsrm_model.specs.declared.report.Sums.{Sums}
+pub use Rattle.fsrm_model.specs.reports.Files.{first_number, is_asked, report_files, sums}
+pub use Rattle.fsrm_model.specs.reports.Filters.{passes_owner, passes_pattern, passes_pattern_of}
 
--- whether an owner and a name are those that are asked for
-abbrev pub passes_owner : Filter → ℕ → Bool
-passes_owner asked owner = option_map_or (λ n. n == owner) asked.owner true
-
-abbrev pub passes_pattern_of : Option (List ℕ) → List ℕ → Bool
-passes_pattern_of pattern name = option_map_or (pattern_matches name) pattern true
-
-abbrev pub passes_pattern : Filter → List ℕ → Bool
-passes_pattern asked name = passes_pattern_of asked.pattern name
-
--- whether a node is a file that is asked for
-abbrev pub is_asked : Filter → NodeRow → Bool
-is_asked asked node = not node.folder && (passes_owner asked node.owner && passes_pattern asked node.name)
-
--- the files below a folder that are asked for, in the order of their numbers
-abbrev pub report_files : List NodeRow → ℕ → Filter → List NodeRow
-report_files nodes scope asked = filter (is_asked asked) (under nodes scope)
-
--- the number of the first file
-abbrev pub first_number : List NodeRow → ℕ
-first_number [] = 0
-first_number (node ∷ nodes) = node.number
-
--- the least number of a file, how many files there are, and the sums of their lengths and of what they take
+-- the sums of no files, and those with one file more
 abbrev pub no_files : Sums
 no_files = record { first = 0; files = 0; lengths = 0; alloc = 0 }
 
 abbrev pub with_file : Sums → ℕ → ℕ → ℕ → Sums
 with_file sums number length alloc =
     record { first = if sums.files == 0 then number else sums.first; files = sums.files + 1; lengths = sums.lengths + length; alloc = sums.alloc + alloc }
-
-abbrev pub sums : Capacity → List NodeRow → Sums
-sums K files = record { first = first_number files; files = length files; lengths = sum_by (λ node. node.length) files; alloc = sum_by (space K) files }
 
 -- whether a node is one of the marked files that are asked for
 abbrev pub is_file : List Bool → Filter → NodeRow → Bool

@@ -1,9 +1,6 @@
 pub mod Ranks
-pub mod Groups
 pub mod Files
-pub mod Reports
 pub mod Quotas
 pub mod Doubles
-pub mod ReportText
 pub mod Worked
 pub mod Walk

@@ -7,8 +7,8 @@ use Rattle.fsrm_model.specs.declared.row.Rows.{Rows}
 use Rattle.fsrm_model.specs.nodes.Tree.{number}
 use Rattle.fsrm_model.specs.objects.Quota.{quota_of}
 use Rattle.fsrm_model.specs.values.Limits.{least_limit}
-use Rattle.storage_reports.specs.declared.ask.ReportAsk.{ReportAsk}
-use Rattle.storage_reports.specs.Reports.{is_much_used, percent_used}
+use Rattle.fsrm_model.specs.declared.report.ReportAsk.{ReportAsk}
+use Rattle.fsrm_model.specs.reports.Reports.{is_much_used, percent_used}
 
 -- a quota is found by its folder, which is there
 pub record IsQuota (R : Rows) (quota : QuotaRow) : Type 0 where

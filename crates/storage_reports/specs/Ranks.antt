@@ -2,13 +2,10 @@
 use Rattle.std.specs.Prelude.{ℕ, ◌==◌, ◌&&◌, ◌||◌, Bool, nat_lt, if◌then◌else◌}
 use Rattle.fsrm_model.specs.declared.report.ReportRow.{ReportRow}
 use Rattle.storage_reports.specs.declared.ranked.Ranked.{Ranked}
+pub use Rattle.fsrm_model.specs.reports.Reports.{comes_before}
 
 abbrev pub row_in : Ranked → ReportRow
 row_in ranked = ranked.row
-
--- whether a number comes before another, where the greatest is to come first or the least is
-abbrev pub comes_before : Bool → ℕ → ℕ → Bool
-comes_before most_first m n = if most_first then nat_lt n m else nat_lt m n
 
 -- equal ranks by a second number, the least first
 abbrev pub stands_before : Bool → Ranked → Ranked → Bool

@@ -5,7 +5,7 @@ use Rattle.fsrm_model.specs.declared.row.ReportKind.{ReportKind}
 use Rattle.fsrm_model.specs.declared.row.ReportKind.TheVariants.{LargeFiles, FilesByType, LeastRecentlyAccessed, MostRecentlyAccessed, QuotaUsage, FilesByOwner, DuplicateFiles, FileScreenAudit}
 use Rattle.fsrm_model.specs.nodes.Fresh.{default_capacity, new_rows}
 use Rattle.fsrm_model.specs.lines.Script.{fold_script}
-use Rattle.storage_reports.specs.ReportText.{report_lines}
+use Rattle.fsrm_model.specs.texts.ReportText.{report_lines}
 
 abbrev pub anything : Filter
 anything = record { owner = None; pattern = None; min_size = None; days = None; min_use = None; max = 1000 }

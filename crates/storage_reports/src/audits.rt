@@ -4,7 +4,7 @@ ghost use Rattle.std.specs.Prelude.{◌≡◌, true, IfOk, map, take};
 ghost use Rattle.std.specs.Option.{option_map_or};
 ghost use Rattle.file_screens.specs.Blocked.{shown};
 ghost use Rattle.fsrm_model.specs.values.Patterns.{is_pattern};
-ghost use Rattle.storage_reports.specs.Reports.{audit_row, audit_rows, audited_from, is_audited, is_recent};
+ghost use Rattle.fsrm_model.specs.reports.Reports.{audit_row, audit_rows, audited_from, is_audited, is_recent};
 
 use crate::ask::DAY;
 use crate::asked::{passes_owner, passes_pattern, pattern_in};

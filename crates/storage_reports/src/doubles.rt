@@ -10,18 +10,17 @@ ghost use Rattle.fsrm_model.specs.values.Patterns.{is_pattern};
 ghost use Rattle.node_table.specs.Views.{seen};
 ghost use Rattle.storage_reports.specs.Doubles.{file_value};
 ghost use Rattle.storage_reports.specs.Files.{no_files, report_files, sums};
-ghost use Rattle.storage_reports.specs.Groups.{groups, with_value};
+ghost use Rattle.fsrm_model.specs.reports.Groups.{groups, with_value};
 ghost use Rattle.storage_reports.specs.Ranks.{stands_before, twice_ranked};
-ghost use Rattle.storage_reports.specs.Reports.{duplicate_rows, file_key, file_row, first_alike, has_double, length_of};
+ghost use Rattle.fsrm_model.specs.reports.Reports.{duplicate_rows, file_key, file_row, first_alike, has_double, length_of};
 
-use crate::ask::ReportAsk;
 use crate::files::Files;
 use crate::groups::{Grouping, grouped};
 use crate::lists::file_row;
 use crate::ranked::{Ranked, keep_first, table_of};
-use crate::sums::{Sums, sums_of};
+use crate::sums::sums_of;
 use crate::type_text::folded_name;
-use fsrm_model::{Ledger, NoMemory, ReportRow, Steps, Table};
+use fsrm_model::{Ledger, NoMemory, ReportAsk, ReportRow, Steps, Sums, Table};
 use indexmap::IndexMap;
 use std::alloc::Global;
 use volume_tree::{NodeView, Tree};
@@ -43,7 +42,7 @@ impl Grouping for ByFile {
     ghost use Rattle.std.specs.Prelude.{ℕ, List, bytes_eq, refl};
     ghost use Rattle.std.proofs.lemmas.Cmp.{nat_list_eq_equiv};
     ghost use Rattle.storage_reports.specs.Doubles.{double_row, file_value};
-    ghost use Rattle.storage_reports.specs.Reports.{file_key};
+    ghost use Rattle.fsrm_model.specs.reports.Reports.{file_key};
 
     ghost Value = { List ℕ };
 

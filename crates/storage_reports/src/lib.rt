@@ -24,5 +24,4 @@ pub mod type_text;
 pub mod types;
 pub mod walk;
 
-pub use ask::{FileList, Report, ReportAsk};
 pub use tables::report;

@@ -5,47 +5,42 @@ ghost use Rattle.fsrm_model.specs.values.Limits.{longest_file};
 ghost use Rattle.node_table.specs.Views.{seen};
 ghost use Rattle.storage_reports.specs.Ranks.{ranked, stands_before};
 ghost use Rattle.fsrm_base.specs.Order.{in_order};
-ghost use Rattle.storage_reports.specs.Reports.{file_row, file_rows, is_listed, is_most_first, rank_of};
+ghost use Rattle.fsrm_model.specs.reports.Reports.{file_row, file_rows, is_listed, is_most_first, rank_of};
 
-use crate::ask::FileList;
 use crate::files::Files;
 use crate::ranked::{Ranked, keep_first, table_of};
-use fsrm_model::{Ledger, NoMemory, ReportRow, Steps, Table};
+use fsrm_model::{FileList, Ledger, NoMemory, ReportRow, Steps, Table};
 use std::alloc::Global;
 use volume_tree::{NodeView, Tree};
 
-impl FileList {
-    /// Whether a file has a row at a moment.
-    fn is_listed(self, moment: u64, node: &NodeView<'_>) -> bool
-        ensures { result ≡ is_listed self moment (seen node.now) }
-    {
-        match self {
-            FileList::Large { least } => least <= node.length,
-            FileList::Unused { seconds } => {
-                seconds <= moment && node.accessed <= moment - seconds
-            }
-            FileList::Used { seconds } => moment < seconds || moment - seconds <= node.accessed,
-        }
+// Whether a file has a row at a moment.
+fn is_listed(list: FileList, moment: u64, node: &NodeView<'_>) -> bool
+    ensures { result ≡ is_listed list moment (seen node.now) }
+{
+    match list {
+        FileList::Large { least } => least <= node.length,
+        FileList::Unused { seconds } => seconds <= moment && node.accessed <= moment - seconds,
+        FileList::Used { seconds } => moment < seconds || moment - seconds <= node.accessed,
     }
+}
 
-    /// The number by which a file stands in order.
-    fn rank_of(self, node: &NodeView<'_>) -> u64
-        ensures { result ≡ rank_of self (seen node.now) }
-    {
-        match self {
-            FileList::Large { least: _ } => node.length,
-            FileList::Unused { seconds: _ } | FileList::Used { seconds: _ } => node.accessed,
-        }
+// The number by which a file stands in order.
+fn rank_of(list: FileList, node: &NodeView<'_>) -> u64
+    ensures { result ≡ rank_of list (seen node.now) }
+{
+    match list {
+        FileList::Large { least: _ } => node.length,
+        FileList::Unused { seconds: _ } | FileList::Used { seconds: _ } => node.accessed,
     }
+}
 
-    /// Whether the files of the greatest numbers come first.
-    fn is_most_first(self) -> bool
-        ensures { result ≡ is_most_first self }
-    {
-        match self {
-            FileList::Unused { seconds: _ } => false,
-            FileList::Large { least: _ } | FileList::Used { seconds: _ } => true,
-        }
+// Whether the files of the greatest numbers come first.
+fn is_most_first(list: FileList) -> bool
+    ensures { result ≡ is_most_first list }
+{
+    match list {
+        FileList::Unused { seconds: _ } => false,
+        FileList::Large { least: _ } | FileList::Used { seconds: _ } => true,
     }
 }
 
@@ -76,8 +71,8 @@ fn listed<L: Ledger>(
 {
     let mut rows = Vec::new(alloc);
     while let Some(node) = files.next(steps) {
-        if kind.is_listed(moment, &node) {
-            let rank = kind.rank_of(&node);
+        if is_listed(kind, moment, &node) {
+            let rank = rank_of(kind, &node);
             let row = file_row(tree, &node);
             keep_first(
                 &mut rows,
@@ -86,7 +81,7 @@ fn listed<L: Ledger>(
                     second: 0,
                     row,
                 },
-                kind.is_most_first(),
+                is_most_first(kind),
                 max,
             )?;
         }
@@ -108,5 +103,5 @@ pub fn list_files<L: Ledger>(
     ensures looks { steps.new ≤ steps.old + files.old.looks }
 {
     let rows = listed(alloc, tree, files, kind, moment, max, steps)?;
-    table_of(alloc, rows, kind.is_most_first(), max)
+    table_of(alloc, rows, is_most_first(kind), max)
 }

@@ -1,8 +1,7 @@
 //! Files by their owners.
 
 use crate::groups::Grouping;
-use crate::sums::Sums;
-use fsrm_model::{NoMemory, ReportRow};
+use fsrm_model::{NoMemory, ReportRow, Sums};
 use std::alloc::Global;
 use volume_tree::NodeView;
 
@@ -14,7 +13,7 @@ impl Grouping for ByOwner {
 
     ghost use Rattle.std.specs.Prelude.{ℕ, nat_eq, refl};
     ghost use Rattle.std.specs.Cmp.{nat_eq_equiv};
-    ghost use Rattle.storage_reports.specs.Reports.{owner_in, owner_row};
+    ghost use Rattle.fsrm_model.specs.reports.Reports.{owner_in, owner_row};
 
     ghost Value = { ℕ };
 

@@ -5,13 +5,12 @@ ghost use Rattle.fsrm_base.specs.Order.{in_order};
 ghost use Rattle.fsrm_model.specs.values.Limits.{least_limit};
 ghost use Rattle.storage_reports.specs.Quotas.{IsQuota, listed_percent};
 ghost use Rattle.storage_reports.specs.Ranks.{ranked, stands_before};
-ghost use Rattle.storage_reports.specs.Reports.{is_much_used, percent_used, quota_row, quota_rows};
+ghost use Rattle.fsrm_model.specs.reports.Reports.{is_much_used, percent_used, quota_row, quota_rows};
 ghost use Rattle.storage_reports.specs.Walk.{AreBelow};
 
-use crate::ask::ReportAsk;
 use crate::ranked::{Ranked, keep_first, table_of};
 use fsrm_engine::Engine;
-use fsrm_model::{NoMemory, QuotaRow, ReportRow, Table};
+use fsrm_model::{NoMemory, QuotaRow, ReportAsk, ReportRow, Table};
 use std::alloc::Global;
 
 // How many percent of a limit are used, rounded down.

@@ -5,43 +5,32 @@ ghost use Rattle.std.specs.Map.{lookup};
 ghost use Rattle.indexmap.specs.IndexMap.{insert_entry};
 ghost use Rattle.storage_reports.specs.Files.{no_files, with_file};
 
-use fsrm_model::NoMemory;
+use fsrm_model::{NoMemory, Sums};
 use indexmap::IndexMap;
 use std::hash::Hash;
 
-/// The least number of a file, how many files there are, and the sums of their lengths and of what they take.
-#[derive(Clone, Copy, Debug, PartialEq, Eq)]
-pub struct Sums {
-    pub first: u32,
-    pub files: u64,
-    pub lengths: u64,
-    pub alloc: u64,
+fn no_files() -> Sums
+    ensures { result ≡ no_files }
+{
+    Sums {
+        first: 0,
+        files: 0,
+        lengths: 0,
+        alloc: 0,
+    }
 }
 
-impl Sums {
-    fn nothing() -> Sums
-        ensures { result ≡ no_files }
-    {
-        Sums {
-            first: 0,
-            files: 0,
-            lengths: 0,
-            alloc: 0,
-        }
-    }
-
-    fn with(self, number: u32, length: u64, alloc: u64) -> Sums
-        requires files { self.files + 1 < 2 ^ 64 }
-        requires lengths { self.lengths + length < 2 ^ 64 }
-        requires alloc { self.alloc + alloc < 2 ^ 64 }
-        ensures { result ≡ with_file self number length alloc }
-    {
-        Sums {
-            first: if self.files == 0 { number } else { self.first },
-            files: self.files + 1,
-            lengths: self.lengths + length,
-            alloc: self.alloc + alloc,
-        }
+fn with_file(sums: Sums, number: u32, length: u64, alloc: u64) -> Sums
+    requires files { sums.files + 1 < 2 ^ 64 }
+    requires lengths { sums.lengths + length < 2 ^ 64 }
+    requires alloc { sums.alloc + alloc < 2 ^ 64 }
+    ensures { result ≡ with_file sums number length alloc }
+{
+    Sums {
+        first: if sums.files == 0 { number } else { sums.first },
+        files: sums.files + 1,
+        lengths: sums.lengths + length,
+        alloc: sums.alloc + alloc,
     }
 }
 
@@ -51,7 +40,7 @@ pub fn sums_of<K: Hash + Eq>(groups: &IndexMap<K, Sums>, key: &K) -> Sums
 {
     match groups.get(key) {
         Some(sums) => *sums,
-        None => Sums::nothing(),
+        None => no_files(),
     }
 }
 
@@ -68,7 +57,7 @@ pub fn add_file<K: Hash + Eq + Drop>(
     requires alloc { (unwrap_or (lookup (K.eq key) groups.old.entries) no_files).alloc + alloc < 2 ^ 64 }
     ensures added { OnOk result (groups.new.entries ≡ insert_entry K.eq groups.old.entries key (with_file (unwrap_or (lookup (K.eq key) groups.old.entries) no_files) number length alloc)) }
 {
-    let sums = sums_of(groups, &key).with(number, length, alloc);
+    let sums = with_file(sums_of(groups, &key), number, length, alloc);
     groups.insert(key, sums)?;
     Ok(())
 }

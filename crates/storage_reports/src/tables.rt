@@ -5,10 +5,11 @@ ghost use Rattle.std.specs.Option.{option_map_or};
 ghost use Rattle.fsrm_model.specs.nodes.Tree.{is_folder};
 ghost use Rattle.fsrm_model.specs.store.Valid.{IsVolume};
 ghost use Rattle.fsrm_model.specs.values.Patterns.{is_pattern};
-ghost use Rattle.storage_reports.specs.Files.{report_files};
-ghost use Rattle.storage_reports.specs.Reports.{file_rows, group_rows, quota_rows, table};
+ghost use Rattle.fsrm_model.specs.reports.Files.{report_files};
+ghost use Rattle.fsrm_model.specs.reports.Filters.{is_filter};
+ghost use Rattle.fsrm_model.specs.reports.Reports.{file_rows, group_rows, quota_rows, table};
 
-use crate::ask::{FileList, Report, ReportAsk};
+use crate::ask::report_of;
 use crate::audits::list_audits;
 use crate::below::marked_below;
 use crate::doubles::list_doubles;
@@ -19,7 +20,7 @@ use crate::owners::ByOwner;
 use crate::quotas::list_quotas;
 use crate::types::ByType;
 use fsrm_engine::Engine;
-use fsrm_model::{Ledger, NoMemory, Steps, Table};
+use fsrm_model::{FileList, Ledger, NoMemory, Report, ReportAsk, Steps, Table};
 use std::alloc::Global;
 use volume_tree::Tree;
 
@@ -95,7 +96,7 @@ fn report_over<L: Ledger>(
     ensures rows { IfOk result (λ made. made.rows ≡ table engine.now.size engine.now.rows ask.now moment) }
     ensures looks { steps.new ≤ steps.old + 8 * length tree.now.nodes }
 {
-    match Report::of(ask.kind, &ask.filter) {
+    match report_of(ask.kind, &ask.filter) {
         Report::Lists(list) => listed_files(alloc, tree, ask, list, moment, steps),
         Report::Owners => grouped_files::<ByOwner, L>(alloc, tree, ask, steps),
         Report::Types => grouped_files::<ByType, L>(alloc, tree, ask, steps),
@@ -107,7 +108,7 @@ fn report_over<L: Ledger>(
 
 /// The first rows of a report, in its order. It takes no more than 8 looks for each node of the volume.
 ///
-/// The scope is a folder, and the filter's pattern is one. It fails only for want of memory.
+/// The scope is a folder, and the values of the filter are in their ranges. It fails only for want of memory.
 pub fn report<L: Ledger>(
     alloc: Global,
     engine: &Engine,
@@ -116,7 +117,7 @@ pub fn report<L: Ledger>(
     steps: &mut Steps<L>,
 ) -> Result<Table, NoMemory>
     requires folder { is_folder engine.now.rows.nodes ask.now.scope ≡ true }
-    requires pattern { option_map_or is_pattern ask.now.filter.pattern true ≡ true }
+    requires filter { is_filter ask.now.filter ≡ true }
     ensures rows { IfOk result (λ made. made.rows ≡ table engine.now.size engine.now.rows ask.now moment) }
     ensures looks { steps.new ≤ steps.old + 8 * length engine.now.rows.nodes }
 {

@@ -4,7 +4,7 @@ ghost use Rattle.std.specs.Prelude.{◌≡◌, ◌||◌, ◌++◌, [], if◌then
 ghost use Rattle.std.specs.Char.{encode_utf8};
 ghost use Rattle.std.specs.String.{string_bytes};
 ghost use Rattle.ucd_case.specs.CaseFolding.{simple_fold};
-ghost use Rattle.storage_reports.specs.Reports.{folded_text, is_dot, type_of};
+ghost use Rattle.fsrm_model.specs.reports.Reports.{folded_text, is_dot, type_of};
 
 use fsrm_model::NoMemory;
 use std::alloc::Global;

@@ -1,9 +1,8 @@
 //! Files by their types.
 
 use crate::groups::Grouping;
-use crate::sums::Sums;
 use crate::type_text::type_of;
-use fsrm_model::{NoMemory, ReportRow, Text};
+use fsrm_model::{NoMemory, ReportRow, Sums, Text};
 use std::alloc::Global;
 use volume_tree::NodeView;
 
@@ -17,7 +16,7 @@ impl Grouping for ByType {
     ghost use Rattle.std.specs.Cmp.{decided};
     ghost use Rattle.std.specs.String.{string_bytes};
     ghost use Rattle.std.proofs.lemmas.Slice.Eq.{bytes_eq-Decides};
-    ghost use Rattle.storage_reports.specs.Reports.{type_in, type_row};
+    ghost use Rattle.fsrm_model.specs.reports.Reports.{type_in, type_row};
 
     ghost Value = { List ℕ };
 

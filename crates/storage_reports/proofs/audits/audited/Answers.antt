@@ -3,7 +3,7 @@ use Rattle.std.proofs.lemmas.List.{append-nil, drop_all}
 use Rattle.std.specs.List.{enumerate_from}
 use Rattle.fsrm_model.specs.declared.row.AuditRow.{AuditRow}
 use Rattle.file_screens.specs.Blocked.{shown}
-use Rattle.storage_reports.specs.Reports.{audited_from, is_audited, is_audited_at, place_in}
+use Rattle.fsrm_model.specs.reports.Reports.{audited_from, is_audited, is_audited_at, place_in}
 use Rattle.storage_reports.proofs.QuotaLaws.{left_from}
 use Rattle.storage_reports.proofs.audits.audited.Goals as goal
 use Rattle.storage_reports.proofs.audits.audited.Goals.{then-is_audited+in_ok-push, else-is_audited}

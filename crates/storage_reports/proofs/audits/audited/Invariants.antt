@@ -1,5 +1,5 @@
 use Rattle.std.proofs.Common.{◌≡◌, ◌++◌, drop}
-use Rattle.storage_reports.specs.Reports.{audited_from}
+use Rattle.fsrm_model.specs.reports.Reports.{audited_from}
 use Rattle.storage_reports.proofs.audits.audited.Given as goal
 
 abbrev pub invariant-loop-place : goal.invariant-loop-place

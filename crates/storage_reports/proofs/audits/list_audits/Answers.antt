@@ -1,6 +1,6 @@
 use Rattle.std.proofs.Common.{map, take, sym, ◌∙◌, ap}
 use Rattle.std.proofs.lemmas.List.{take-map}
-use Rattle.storage_reports.specs.Reports.{audit_row, audited_from}
+use Rattle.fsrm_model.specs.reports.Reports.{audit_row, audited_from}
 use Rattle.storage_reports.proofs.audits.list_audits.Goals as goal
 
 pub returns : goal.returns

@@ -1,5 +1,5 @@
 use Rattle.std.proofs.Common.{◌≡◌, map}
-use Rattle.storage_reports.specs.Reports.{audit_row}
+use Rattle.fsrm_model.specs.reports.Reports.{audit_row}
 use Rattle.storage_reports.proofs.audits.rows_of.Given as goal
 
 abbrev pub invariant-loop-place : goal.invariant-loop-place

@@ -3,7 +3,7 @@ use Rattle.std.specs.Prelude.{bytes_eq}
 use Rattle.std.specs.Map.{lookup}
 use Rattle.storage_reports.specs.Doubles.{file_value}
 use Rattle.storage_reports.specs.Files.{Sums, no_files}
-use Rattle.storage_reports.specs.Groups.{with_value}
+use Rattle.fsrm_model.specs.reports.Groups.{with_value}
 use Rattle.storage_reports.proofs.SeenKeys.{lookup-seen}
 use Rattle.storage_reports.proofs.doubles.alike.Goals as goal
 

@@ -9,9 +9,9 @@ use Rattle.node_table.specs.Views.{seen}
 use Rattle.storage_reports.specs.declared.ranked.Ranked.{Ranked}
 use Rattle.storage_reports.specs.Doubles.{file_value}
 use Rattle.storage_reports.specs.Files.{Sums, sums}
-use Rattle.storage_reports.specs.Groups.{with_value}
+use Rattle.fsrm_model.specs.reports.Groups.{with_value}
 use Rattle.storage_reports.specs.Ranks.{stands_before, twice_ranked}
-use Rattle.storage_reports.specs.Reports.{alike, file_key, file_row, first_alike, has_double, length_of}
+use Rattle.fsrm_model.specs.reports.Reports.{alike, file_key, file_row, first_alike, has_double, length_of}
 use Rattle.storage_reports.proofs.FileGroups.{so_far_is}
 use Rattle.storage_reports.proofs.doubles.doubled.Goals as goal
 

@@ -1,7 +1,7 @@
 use Rattle.std.proofs.Common.{◌≡◌, ◌+◌, ◌≤◌, ◌++◌, filter, length, map, take, true}
 use Rattle.fsrm_base.specs.Order.{in_order}
 use Rattle.storage_reports.specs.Ranks.{stands_before, twice_ranked}
-use Rattle.storage_reports.specs.Reports.{file_row, first_alike, has_double, length_of}
+use Rattle.fsrm_model.specs.reports.Reports.{file_row, first_alike, has_double, length_of}
 use Rattle.storage_reports.proofs.doubles.doubled.Given as goal
 
 abbrev pub invariant-loop-node : goal.invariant-loop-node

@@ -3,9 +3,9 @@ use Rattle.std.specs.Prelude.{bytes_eq}
 use Rattle.fsrm_model.specs.declared.report.ReportRow.{ReportRow}
 use Rattle.fsrm_model.specs.declared.row.NodeRow.{NodeRow}
 use Rattle.storage_reports.specs.Files.{sums}
-use Rattle.storage_reports.specs.Groups.{groups}
+use Rattle.fsrm_model.specs.reports.Groups.{groups}
 use Rattle.storage_reports.specs.Ranks.{row_in}
-use Rattle.storage_reports.specs.Reports.{duplicate_rows, file_key, file_row, first_alike, has_double, length_of}
+use Rattle.fsrm_model.specs.reports.Reports.{duplicate_rows, file_key, file_row, first_alike, has_double, length_of}
 use Rattle.storage_reports.proofs.TableLaws.{table_twice}
 use Rattle.storage_reports.proofs.doubles.list_doubles.Goals as goal
 

@@ -6,7 +6,7 @@ use Rattle.fsrm_model.specs.declared.row.NodeRow.{NodeRow}
 use Rattle.fsrm_model.specs.values.Space.{space}
 use Rattle.node_table.specs.Views.{seen}
 use Rattle.storage_reports.specs.Files.{Sums, no_files, with_file}
-use Rattle.storage_reports.specs.Groups.{with_value}
+use Rattle.fsrm_model.specs.reports.Groups.{with_value}
 use Rattle.storage_reports.proofs.FileGroups.{alloc_fits, file_space, files_fit, grown, lengths_fit}
 use Rattle.storage_reports.proofs.SeenKeys.{insert-seen, lookup-seen}
 use Rattle.storage_reports.proofs.groups.grouped.Goals as goal

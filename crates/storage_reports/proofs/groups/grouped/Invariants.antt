@@ -1,7 +1,7 @@
 use Rattle.std.proofs.Common.{◌≡◌, ◌+◌, ◌≤◌, ◌++◌, List, length, map}
 use Rattle.fsrm_model.specs.declared.row.NodeRow.{NodeRow}
 use Rattle.storage_reports.specs.Files.{sums}
-use Rattle.storage_reports.specs.Groups.{groups, with_value}
+use Rattle.fsrm_model.specs.reports.Groups.{groups, with_value}
 use Rattle.storage_reports.proofs.groups.grouped.Given as goal
 
 abbrev pub invariant-loop-node : goal.invariant-loop-node

@@ -3,9 +3,9 @@ use Rattle.fsrm_model.specs.declared.report.ReportRow.{ReportRow}
 use Rattle.fsrm_base.specs.Order.{in_order}
 use Rattle.storage_reports.specs.declared.ranked.Ranked.{Ranked}
 use Rattle.storage_reports.specs.Files.{sums}
-use Rattle.storage_reports.specs.Groups.{groups}
+use Rattle.fsrm_model.specs.reports.Groups.{groups}
 use Rattle.storage_reports.specs.Ranks.{ranked, row_in, stands_before}
-use Rattle.storage_reports.specs.Reports.{alloc_in}
+use Rattle.fsrm_model.specs.reports.Reports.{alloc_in}
 use Rattle.storage_reports.proofs.TableLaws.{table_is}
 use Rattle.storage_reports.proofs.groups.list_groups.Goals as goal
 

@@ -1,7 +1,7 @@
 use Rattle.std.proofs.Common.{◌≡◌, ◌++◌, map}
-use Rattle.storage_reports.specs.Groups.{with_value}
+use Rattle.fsrm_model.specs.reports.Groups.{with_value}
 use Rattle.storage_reports.specs.Ranks.{ranked}
-use Rattle.storage_reports.specs.Reports.{alloc_in}
+use Rattle.fsrm_model.specs.reports.Reports.{alloc_in}
 use Rattle.storage_reports.proofs.groups.rows_of.Given as goal
 
 abbrev pub invariant-loop-key : goal.invariant-loop-key

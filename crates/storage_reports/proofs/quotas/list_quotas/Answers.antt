@@ -1,7 +1,7 @@
 use Rattle.std.proofs.Common.{◌≡◌, List, IfOk, filter, map, true, ◌∙◌, ap, subst}
 use Rattle.fsrm_model.specs.declared.report.ReportRow.{ReportRow}
 use Rattle.storage_reports.specs.Ranks.{row_in}
-use Rattle.storage_reports.specs.Reports.{is_much_used, percent_used, quota_row}
+use Rattle.fsrm_model.specs.reports.Reports.{is_much_used, percent_used, quota_row}
 use Rattle.storage_reports.proofs.TableLaws.{table_is}
 use Rattle.storage_reports.proofs.quotas.list_quotas.Goals as goal
 

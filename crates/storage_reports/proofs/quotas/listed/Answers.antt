@@ -4,7 +4,7 @@ use Rattle.fsrm_model.specs.declared.report.ReportRow.TheVariants.{Quota}
 use Rattle.fsrm_model.specs.declared.row.QuotaRow.{QuotaRow}
 use Rattle.storage_reports.specs.declared.ranked.Ranked.{Ranked}
 use Rattle.storage_reports.specs.Ranks.{ranked, stands_before}
-use Rattle.storage_reports.specs.Reports.{is_much_used, percent_used, quota_row}
+use Rattle.fsrm_model.specs.reports.Reports.{is_much_used, percent_used, quota_row}
 use Rattle.storage_reports.proofs.QuotaLaws.{counted, left_from, none_counted, quota_is, quota_within}
 use Rattle.storage_reports.proofs.quotas.listed.Goals as goal
 use Rattle.storage_reports.proofs.quotas.listed.Goals.{in-Some+in_ok-keep_first, in_default}

@@ -1,7 +1,7 @@
 use Rattle.std.proofs.Common.{◌≡◌, ◌++◌, drop, filter, map, take, true}
 use Rattle.fsrm_base.specs.Order.{in_order}
 use Rattle.storage_reports.specs.Ranks.{ranked, stands_before}
-use Rattle.storage_reports.specs.Reports.{is_much_used, percent_used, quota_row}
+use Rattle.fsrm_model.specs.reports.Reports.{is_much_used, percent_used, quota_row}
 use Rattle.storage_reports.proofs.quotas.listed.Given as goal
 
 abbrev pub invariant-loop-place : goal.invariant-loop-place

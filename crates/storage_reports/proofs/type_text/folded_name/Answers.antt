@@ -6,7 +6,7 @@ use Rattle.std.specs.String.{string_bytes}
 use Rattle.std.proofs.lemmas.List.{append-nil, nil_from_length}
 use Rattle.std.proofs.lemmas.Str.{IsUtf8-past_char, chars-nil, chars_past_char}
 use Rattle.ucd_case.specs.CaseFolding.{simple_fold}
-use Rattle.storage_reports.specs.Reports.{folded_text}
+use Rattle.fsrm_model.specs.reports.Reports.{folded_text}
 use Rattle.storage_reports.proofs.type_text.folded_name.Goals as goal
 
 pub loop-character-init : goal.loop-character-init

@@ -2,7 +2,7 @@ use Rattle.std.proofs.Common.{◌≡◌, ◌++◌, chars}
 use Rattle.std.specs.Str.{IsUtf8}
 use Rattle.std.specs.Str.Iter.{chars_rest}
 use Rattle.std.specs.String.{string_bytes}
-use Rattle.storage_reports.specs.Reports.{folded_text}
+use Rattle.fsrm_model.specs.reports.Reports.{folded_text}
 use Rattle.storage_reports.proofs.type_text.folded_name.Given as goal
 
 abbrev pub invariant-loop-character : goal.invariant-loop-character
