@@ -26,23 +26,23 @@ use Rattle.fsrm_store.specs.declared.fault.StoreFault.{StoreFault}
 use Rattle.fsrm_store.specs.declared.fault.StoreFault.TheVariants.{DiskFault as Failed, NoMemory as OutOfMemory}
 use Rattle.fsrm_session.specs.Turns.{Turn, command_turn, rows_after, text_of, told}
 use Rattle.fsrm_session.specs.Underway.{Calms, Enters, Goes, Safe, Stops, StopsTelling, Tells, Underway}
+use Rattle.reply_text.specs.declared.replies.Line.{Line}
 use Rattle.fsrm_session.specs.declared.session.Session.{Session}
 use Rattle.fsrm_session.specs.declared.stop.Stop.{Stop}
 use Rattle.fsrm_session.specs.declared.stop.Stop.TheVariants.{DiskFault, NoMemory}
 use Rattle.fsrm_session.proofs.Going.{breaks_stop, calms_full, disk_part, enters_stops, enters_tells, shown_few, shows_still, still, stopped_more}
-use Rattle.fsrm_session.proofs.Handing.{any_moment}
 use Rattle.fsrm_session.proofs.Texts.{front_length, front_then, rows_one, text_front}
 
 -- ---- what is told of a command is what its turn says
 pub said_told : (K size : Capacity) (R rows : Rows) (waiting : List Act) (outcome : Outcome) (number : ℕ) (c : Command) → size ≡ K → rows ≡ (step K R c).rows → waiting ≡ (step K R c).acts → outcome ≡ (step K R c).outcome
-    → (replied_to K R number (Some (Ok c))).text ≡ told size rows waiting number outcome
+    → (replied_to K R number (Some (Ok c))).text ≡ told size rows waiting (record { number = number; moment = c.moment }) outcome
 said_told K size R rows waiting outcome number c sizes same acts is =
     let s = step K R c in
-    sym (ap (λ (k : Capacity). told k rows waiting number outcome) sizes
-    ∙ ap (λ (T : Rows). told K T waiting number outcome) same
-    ∙ ap (λ (w : List Act). told K s.rows w number outcome) acts
-    ∙ ap (told K s.rows s.acts number) is
-    ∙ ap (λ (l : List ℕ). l ++ act_lines s.rows s.acts) (any_moment K s.rows 0 c.moment number s.outcome))
+    let line : Line = record { number = number; moment = c.moment } in
+    sym (ap (λ (k : Capacity). told k rows waiting line outcome) sizes
+    ∙ ap (λ (T : Rows). told K T waiting line outcome) same
+    ∙ ap (λ (w : List Act). told K s.rows w line outcome) acts
+    ∙ ap (told K s.rows s.acts line) is)
 
 -- a refusal that carries no path names nothing
 pub bare_named : (R : Rows) (refusal : Refusal) → is_bare refusal ≡ true → IsNamed R (Refused refusal)

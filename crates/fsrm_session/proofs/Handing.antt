@@ -7,13 +7,12 @@ use Rattle.std.proofs.lemmas.List.Sums.{sum_by-append}
 use Rattle.fsrm_model.specs.declared.command.Act.{Act}
 use Rattle.fsrm_model.specs.declared.command.Command.{Command}
 use Rattle.fsrm_model.specs.declared.command.Outcome.{Outcome}
-use Rattle.fsrm_model.specs.declared.command.Outcome.TheVariants.{Done, Sum, Listing, Scanned, Refused}
 use Rattle.fsrm_model.specs.declared.row.Capacity.{Capacity}
 use Rattle.fsrm_model.specs.declared.row.NodeRow.{NodeRow}
 use Rattle.fsrm_model.specs.declared.row.Rows.{Rows}
 use Rattle.fsrm_model.specs.objects.Acts.{folder_in}
 use Rattle.fsrm_model.specs.texts.ActText.{act_line, act_lines}
-use Rattle.fsrm_model.specs.commands.Cost.{acts_cost, path_cost, print_cost}
+use Rattle.fsrm_model.specs.commands.Cost.{acts_cost, path_cost, print_cost, report_cost}
 use Rattle.fsrm_model.specs.declared.command.Refusal.{Refusal}
 use Rattle.fsrm_model.specs.declared.command.Refusal.TheVariants.{ClockBack}
 use Rattle.fsrm_model.specs.commands.Check.{◌when◌, first}
@@ -24,6 +23,7 @@ use Rattle.fsrm_model.specs.texts.Text.{reply}
 use Rattle.fsrm_engine.specs.Machine.{Machine}
 use Rattle.fsrm_store.specs.Standing.{KeepsJournal, StandsAlike}
 use Rattle.fsrm_store.specs.declared.store.Store.{Store}
+use Rattle.reply_text.specs.declared.replies.Line.{Line}
 use Rattle.fsrm_session.specs.Turns.{told}
 
 -- ---- a store that stands alike
@@ -104,25 +104,17 @@ looks_broken R all done rest first now e p =
     omega (arith, p, split, whole)
 
 -- ---- a reply, and then its acts
--- no reply depends on the moment
-pub any_moment : (K : Capacity) (R : Rows) (one two number : ℕ) (outcome : Outcome) → reply K R one number outcome ≡ reply K R two number outcome
-any_moment K R one two number (Done passive) = refl
-any_moment K R one two number (Sum node bytes) = refl
-any_moment K R one two number (Listing ask) = refl
-any_moment K R one two number (Scanned folder visited used) = refl
-any_moment K R one two number (Refused refusal) = refl
-
--- nor on who lends the machine
+-- it doesn't depend on who lends the machine
 pub reply_lent : (lent own : Machine) (moment number : ℕ) (outcome : Outcome) → lent ≡ own → reply lent.size lent.rows moment number outcome ≡ reply own.size own.rows moment number outcome
 reply_lent lent own moment number outcome e = ap (λ (m : Machine). reply m.size m.rows moment number outcome) e
 
-pub cost_lent : (lent own : Machine) (outcome : Outcome) → lent ≡ own → print_cost lent.rows outcome ≡ print_cost own.rows outcome
-cost_lent lent own outcome e = ap (λ (m : Machine). print_cost m.rows outcome) e
+pub cost_lent : (lent own : Machine) (moment : ℕ) (outcome : Outcome) → lent ≡ own → report_cost lent.rows.nodes outcome + print_cost lent.size lent.rows moment outcome ≡ report_cost own.rows.nodes outcome + print_cost own.size own.rows moment outcome
+cost_lent lent own moment outcome e = ap (λ (m : Machine). report_cost m.rows.nodes outcome + print_cost m.size m.rows moment outcome) e
 
 -- where no act waits, the reply is all that is told
-pub told_alone : (K : Capacity) (R : Rows) (waiting : List Act) (number : ℕ) (outcome : Outcome) → waiting ≡ [] → reply K R 0 number outcome ≡ told K R waiting number outcome
-told_alone K R waiting number outcome none =
-    sym (append-nil (reply K R 0 number outcome)) ∙ ap (λ (acts : List Act). reply K R 0 number outcome ++ act_lines R acts) (sym none)
+pub told_alone : (K : Capacity) (R : Rows) (waiting : List Act) (line : Line) (outcome : Outcome) → waiting ≡ [] → reply K R line.moment line.number outcome ≡ told K R waiting line outcome
+told_alone K R waiting line outcome none =
+    sym (append-nil (reply K R line.moment line.number outcome)) ∙ ap (λ (acts : List Act). reply K R line.moment line.number outcome ++ act_lines R acts) (sym none)
 
 -- ---- a command that doesn't last has no action run
 calm_left : (K : Capacity) (R : Rows) (m : ℕ) (refusal : Refusal) (left : Option Acted) → (refused_leaving K R m refusal left).lasting ≡ false → (refused_leaving K R m refusal left).acts ≡ []

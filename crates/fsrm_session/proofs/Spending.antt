@@ -22,7 +22,7 @@ use Rattle.fsrm_journal.specs.declared.journal.Journal.{Journal}
 use Rattle.fsrm_store.specs.Amortized.{bytes_since, entries_bytes, held_bytes, Amortized}
 use Rattle.fsrm_store.specs.Standing.{tail_of, Standing}
 use Rattle.fsrm_session.specs.Spending.{bytes_after, Eases, Spends}
-use Rattle.fsrm_session.specs.Turns.{bytes_of, command_turn, looks_of, rows_after, text_of, AreAlike, IsWithin, Turn}
+use Rattle.fsrm_session.specs.Turns.{bytes_of, command_turn, looks_of, rows_after, telling_cost, text_of, AreAlike, IsWithin, Turn}
 use Rattle.fsrm_session.specs.Underway.{Calms, Goes, Underway}
 use Rattle.fsrm_session.specs.declared.session.Session.{Session}
 use Rattle.fsrm_session.specs.declared.stop.Stop.{Stop}
@@ -205,7 +205,7 @@ since_alike old new end image_end none =
 -- the store took it, and then its reply was told
 pub spends_command : {O : Type 0} {M : Members O} (number : ℕ) (c : Command) (was : Session) (old : O) (looks mid told steps bytes left : ℕ)
     → ((kept : Rows) → Standing M.reads M.disk_clock M.images kept was.store old → Amortized (length (step was.store.engine.size was.store.engine.rows c).rows.nodes) (looks + cost was.store.engine.rows c) mid (bytes_since was.store.journal + entries_bytes (command_entries was.store.engine.size was.store.engine.rows c)) bytes)
-    → told ≤ print_cost (step was.store.engine.size was.store.engine.rows c).rows (step was.store.engine.size was.store.engine.rows c).outcome + acts_cost (step was.store.engine.size was.store.engine.rows c).rows.nodes (step was.store.engine.size was.store.engine.rows c).acts
+    → told ≤ telling_cost was.store.engine.size (step was.store.engine.size was.store.engine.rows c).rows (step was.store.engine.size was.store.engine.rows c).acts c.moment (step was.store.engine.size was.store.engine.rows c).outcome
     → steps ≤ mid + told → left ≤ bytes → Spends M (command_turn was.store.engine.size number c ∷ []) was old looks steps left
 spends_command number c was old looks mid told steps bytes left amortized few said less = record {
   spends = λ K R done before u most within.
@@ -214,7 +214,7 @@ spends_command number c was old looks mid told steps bytes left amortized few sa
       let s = step size rows c in
       let since = bytes_since was.store.journal in
       let entries = entries_bytes (command_entries size rows c) in
-      let replies = print_cost s.rows s.outcome + acts_cost s.rows.nodes s.acts in
+      let replies = telling_cost size s.rows s.acts c.moment s.outcome in
       let one = amortized (lasting (rows_after R u.first)) u.standing in
       let wide = allowed (length s.rows.nodes) most (looks + cost rows c) (looks + cost rows c) mid (since + entries) (since + entries) bytes left within.1 (omega arith) (omega arith) less one in
       let both = images_then most (looks + cost rows c) mid replies steps (since + entries) left 0 left wide (no_image most (mid + replies) steps (left + 0) left (omega (arith, few, said)) (omega arith)) in
@@ -222,50 +222,51 @@ spends_command number c was old looks mid told steps bytes left amortized few sa
 }
 
 -- what is told of it costs what its turn says
-pub told_cost : (K : Capacity) (R rows : Rows) (waiting : List Act) (outcome : Outcome) (c : Command) → rows ≡ (step K R c).rows → waiting ≡ (step K R c).acts → outcome ≡ (step K R c).outcome
-    → print_cost rows outcome + acts_cost rows.nodes waiting ≤ print_cost (step K R c).rows (step K R c).outcome + acts_cost (step K R c).rows.nodes (step K R c).acts
-told_cost K R rows waiting outcome c same acts is =
+no_more : {a b : ℕ} → a ≡ b → a ≤ b
+no_more e = omega (arith, e)
+
+pub told_cost : (K size : Capacity) (R rows : Rows) (waiting : List Act) (outcome : Outcome) (c : Command) → size ≡ K → rows ≡ (step K R c).rows → waiting ≡ (step K R c).acts → outcome ≡ (step K R c).outcome
+    → telling_cost size rows waiting c.moment outcome ≤ telling_cost K (step K R c).rows (step K R c).acts c.moment (step K R c).outcome
+told_cost K size R rows waiting outcome c sizes same acts is =
     let s = step K R c in
-    omega (
-      arith,
-      ap (λ (T : Rows). print_cost T outcome) same,
-      ap (print_cost s.rows) is,
-      ap (λ (T : Rows). acts_cost T.nodes waiting) same,
-      ap (acts_cost s.rows.nodes) acts,
-    )
+    no_more
+    (ap (λ (k : Capacity). telling_cost k rows waiting c.moment outcome) sizes
+    ∙ ap (λ (T : Rows). telling_cost K T waiting c.moment outcome) same
+    ∙ ap (λ (w : List Act). telling_cost K s.rows w c.moment outcome) acts
+    ∙ ap (telling_cost K s.rows s.acts c.moment) is)
 
 -- ---- a line that is refused
-pub bare_cost : (R : Rows) (refusal : Refusal) → is_bare refusal ≡ true → print_cost R (Refused refusal) ≡ 0
-bare_cost R (ScreenBlocked screen) bare = absurd (cc)
-bare_cost R (QuotaExceeded folder would limit) bare = absurd (cc)
-bare_cost R (BadLine column) bare = refl
-bare_cost R LineTooLong bare = refl
-bare_cost R InvalidPath bare = refl
-bare_cost R InvalidName bare = refl
-bare_cost R OutOfRange bare = refl
-bare_cost R InvalidLimit bare = refl
-bare_cost R ClockBack bare = refl
-bare_cost R PathNotFound bare = refl
-bare_cost R NotFound bare = refl
-bare_cost R AlreadyExists bare = refl
-bare_cost R DuplicateName bare = refl
-bare_cost R InUse bare = refl
-bare_cost R InvalidCombination bare = refl
-bare_cost R NotEmpty bare = refl
-bare_cost R InvalidMove bare = refl
-bare_cost R NothingToScan bare = refl
-bare_cost R VolumeFull bare = refl
-bare_cost R NamesFull bare = refl
-bare_cost R TableFull bare = refl
-bare_cost R TextsFull bare = refl
+pub bare_cost : (K : Capacity) (R : Rows) (moment : ℕ) (refusal : Refusal) → is_bare refusal ≡ true → print_cost K R moment (Refused refusal) ≡ 0
+bare_cost K R moment (ScreenBlocked screen) bare = absurd (cc)
+bare_cost K R moment (QuotaExceeded folder would limit) bare = absurd (cc)
+bare_cost K R moment (BadLine column) bare = refl
+bare_cost K R moment LineTooLong bare = refl
+bare_cost K R moment InvalidPath bare = refl
+bare_cost K R moment InvalidName bare = refl
+bare_cost K R moment OutOfRange bare = refl
+bare_cost K R moment InvalidLimit bare = refl
+bare_cost K R moment ClockBack bare = refl
+bare_cost K R moment PathNotFound bare = refl
+bare_cost K R moment NotFound bare = refl
+bare_cost K R moment AlreadyExists bare = refl
+bare_cost K R moment DuplicateName bare = refl
+bare_cost K R moment InUse bare = refl
+bare_cost K R moment InvalidCombination bare = refl
+bare_cost K R moment NotEmpty bare = refl
+bare_cost K R moment InvalidMove bare = refl
+bare_cost K R moment NothingToScan bare = refl
+bare_cost K R moment VolumeFull bare = refl
+bare_cost K R moment NamesFull bare = refl
+bare_cost K R moment TableFull bare = refl
+bare_cost K R moment TextsFull bare = refl
 
 -- its refusal takes none
 pub spends_refused : {O : Type 0} {M : Members O} (turns : List Turn) (was next : Session) (old : O) (waiting : List Act) (refusal : Refusal) (looks steps left : ℕ) → is_bare refusal ≡ true → waiting ≡ [] → next.store.journal ≡ was.store.journal → left ≤ bytes_since next.store.journal
-    → steps ≤ looks + (print_cost was.store.engine.rows (Refused refusal) + acts_cost was.store.engine.rows.nodes waiting) → Spends M turns was old looks steps left
+    → steps ≤ looks + telling_cost was.store.engine.size was.store.engine.rows waiting 0 (Refused refusal) → Spends M turns was old looks steps left
 spends_refused turns was next old waiting refusal looks steps left bare none same less few =
     let rows = was.store.engine.rows in
     let acts : acts_cost rows.nodes waiting ≡ 0 = ap (acts_cost rows.nodes) none in
     record {
       spends = λ K R done before u most within.
-          no_image most (looks + looks_of rows turns) steps (bytes_since was.store.journal + bytes_of rows turns) left (omega (arith, few, acts, bare_cost rows refusal bare)) (omega (arith, less, ap bytes_since same));
+          no_image most (looks + looks_of rows turns) steps (bytes_since was.store.journal + bytes_of rows turns) left (omega (arith, few, acts, bare_cost was.store.engine.size rows 0 refusal bare)) (omega (arith, less, ap bytes_since same));
     }

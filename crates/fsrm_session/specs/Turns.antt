@@ -6,11 +6,13 @@ use Rattle.fsrm_model.specs.declared.command.Outcome.{Outcome}
 use Rattle.fsrm_model.specs.declared.command.Refusal.{Refusal}
 use Rattle.fsrm_model.specs.declared.row.Capacity.{Capacity}
 use Rattle.fsrm_model.specs.declared.row.Rows.{Rows}
+use Rattle.fsrm_model.specs.commands.Cost.{acts_cost, print_cost, report_cost}
 use Rattle.fsrm_model.specs.lines.Script.{line_cost, lines, read_cost, replied, replied_to}
 use Rattle.fsrm_model.specs.store.Replays.{line_entries, read_entries}
 use Rattle.fsrm_model.specs.texts.ActText.{act_lines}
 use Rattle.fsrm_model.specs.texts.Text.{reply}
 use Rattle.fsrm_store.specs.Amortized.{entries_bytes}
+use Rattle.reply_text.specs.declared.replies.Line.{Line}
 
 -- What a turn shows, the rows after it, how many looks at nodes it may take, and the bytes of its records, each by the rows
 -- before it.
@@ -99,6 +101,10 @@ AreAlike (turn ∷ turns) [] = ⊥
 AreAlike (one ∷ ones) (two ∷ twos) = IsAlike one two × AreAlike ones twos
 
 -- ---- what is told of a command that was done
--- the reply of this outcome, and then the lines of the acts that wait
-abbrev pub told : Capacity → Rows → List Act → ℕ → Outcome → List ℕ
-told K R waiting number outcome = reply K R 0 number outcome ++ act_lines R waiting
+-- the reply of this outcome to a line, and then the lines of the acts that wait
+abbrev pub told : Capacity → Rows → List Act → Line → Outcome → List ℕ
+told K R waiting line outcome = reply K R line.moment line.number outcome ++ act_lines R waiting
+
+-- and the looks that it takes to make a report, if it is one, and to write all this
+abbrev pub telling_cost : Capacity → Rows → List Act → ℕ → Outcome → ℕ
+telling_cost K R waiting moment outcome = report_cost R.nodes outcome + (print_cost K R moment outcome + acts_cost R.nodes waiting)

@@ -1,19 +1,22 @@
 //! The reply to a command, and its acts, written to a sink.
 
 ghost use Rattle.std.specs.Prelude.{◌≡◌, ◌≤◌, ◌+◌, [], false, OnOk};
-ghost use Rattle.fsrm_model.specs.commands.Cost.{acts_cost, print_cost};
+ghost use Rattle.fsrm_model.specs.commands.Cost.{acts_cost, print_cost, report_cost};
 ghost use Rattle.fsrm_model.specs.meaning.Named.{IsNamed};
 ghost use Rattle.fsrm_model.specs.texts.ActText.{act_lines};
 ghost use Rattle.fsrm_store.specs.Standing.{KeepsJournal, StandsAlike};
 ghost use Rattle.line_parts.specs.Writes.{Writes};
-ghost use Rattle.fsrm_session.specs.Turns.{told};
+ghost use Rattle.fsrm_model.specs.texts.Text.{reply};
+ghost use Rattle.fsrm_session.specs.Turns.{telling_cost, told};
 
-use fsrm_model::{Answer, Ledger, Steps};
+use fsrm_engine::Engine;
+use fsrm_model::{Answer, Ledger, Outcome, Steps};
 use fsrm_outside::Sink;
 use fsrm_store::Store;
 use line_parts::TextFault;
-use reply_text::{write_act, write_answer};
+use reply_text::{Line, write_act, write_answer};
 use std::alloc::Global;
+use storage_reports::report;
 
 // Writes the line of each act that waits, in their order.
 fn write_acts<S: Sink, L: Ledger>(
@@ -36,12 +39,34 @@ fn write_acts<S: Sink, L: Ledger>(
     Ok(())
 }
 
-/// Writes the reply to a command that was taken, and the acts that it set off. Its line has this number.
+// Writes the reply to a command that was taken, without its acts. A report is made first.
+fn write_outcome<S: Sink, L: Ledger>(
+    alloc: Global,
+    sink: &mut S,
+    line: Line,
+    answer: &Answer,
+    engine: &Engine,
+    steps: &mut Steps<L>,
+) -> Result<(), TextFault>
+    requires { IsNamed engine.now.rows answer.now.outcome }
+    ensures writes { Writes S.Sink result sink.old sink.new (reply engine.now.size engine.now.rows line.moment line.number answer.now.outcome) }
+    ensures looks { steps.new ≤ steps.old + (report_cost engine.now.rows.nodes answer.now.outcome + print_cost engine.now.size engine.now.rows line.moment answer.now.outcome) }
+{
+    match &answer.outcome {
+        Outcome::Report(ask) => {
+            let table = report(alloc, engine, ask.as_ref(), line.moment, steps)?;
+            write_answer(alloc, sink, line, answer, Some(&table), engine, steps)
+        }
+        _ => write_answer(alloc, sink, line, answer, None, engine, steps),
+    }
+}
+
+/// Writes the reply to the command of a line, which was taken, and the acts that it set off.
 pub fn write_reply<S: Sink, L: Ledger>(
     store: &mut Store,
     alloc: Global,
     sink: &mut S,
-    number: u64,
+    line: Line,
     answer: &Answer,
     steps: &mut Steps<L>,
 ) -> Result<(), TextFault>
@@ -52,10 +77,10 @@ pub fn write_reply<S: Sink, L: Ledger>(
     ensures journal { KeepsJournal store.old store.new }
     ensures stands { StandsAlike store.old store.new }
     ensures idle { OnOk result (store.new.engine.waiting ≡ []) }
-    ensures writes { Writes S.Sink result sink.old sink.new (told store.old.engine.size store.old.engine.rows store.old.engine.waiting number answer.now.outcome) }
-    ensures looks { steps.new ≤ steps.old + (print_cost store.old.engine.rows answer.now.outcome + acts_cost store.old.engine.rows.nodes store.old.engine.waiting) }
+    ensures writes { Writes S.Sink result sink.old sink.new (told store.old.engine.size store.old.engine.rows store.old.engine.waiting line answer.now.outcome) }
+    ensures looks { steps.new ≤ steps.old + telling_cost store.old.engine.size store.old.engine.rows store.old.engine.waiting line.moment answer.now.outcome }
 {
-    write_answer(alloc, sink, number, answer, None, store.engine(), steps)?;
+    write_outcome(alloc, sink, line, answer, store.engine(), steps)?;
     // A command that doesn't last has no action run.
     if !answer.lasting {
         return Ok(());

@@ -13,12 +13,13 @@ use crate::session::Session;
 use crate::stop::Stop;
 use fsrm_model::{
     AdminDeed, Answer, AutoquotaDeed, Command, Deed, ExceptionDeed, FilegroupDeed, Ledger, Outcome,
-    QuotaDeed, Refusal, ScreenDeed, Steps, TemplateDeed,
+    QuotaDeed, Refusal, ReportsDeed, ScreenDeed, Steps, TemplateDeed,
 };
 use fsrm_outside::Outside;
 use fsrm_store::StoreFault;
+use reply_text::Line;
 
-// Whether a command's reply may be long: a list, or a sum. All before it is made stable and shown first, so it needn't
+// Whether a command's reply may be long: a list, a sum, or a report. All before it is made stable and shown first, so it needn't
 // wait in memory.
 fn is_long(deed: &Deed) -> bool {
     match deed {
@@ -29,6 +30,10 @@ fn is_long(deed: &Deed) -> bool {
         Deed::Filegroup(deed) => matches!(deed.as_ref(), FilegroupDeed::List),
         Deed::Screen(deed) => matches!(deed.as_ref(), ScreenDeed::List),
         Deed::Exception(deed) => matches!(deed.as_ref(), ExceptionDeed::List),
+        Deed::Reports(deed) => matches!(
+            deed.as_ref(),
+            ReportsDeed::Generate(_) | ReportsDeed::Run { .. } | ReportsDeed::List
+        ),
         Deed::Admin(deed) => matches!(deed, AdminDeed::List | AdminDeed::Log),
         Deed::File(_) | Deed::Step { .. } => false,
     }
@@ -79,7 +84,10 @@ impl Session {
         ensures looks { Spends (members O.Source O.Sink O.Disk) (command_turn self.old.store.engine.size number command.now ∷ []) self.old outside.old steps.old steps.new (bytes_after result self.new) }
     {
         match self.store.apply(self.alloc, outside, command, steps) {
-            Ok(answer) => self.tell(outside, number, &answer, steps),
+            Ok(answer) => {
+                let moment = command.moment;
+                self.tell(outside, Line { number, moment }, &answer, steps)
+            }
             Err(fault) => match fault {
                 StoreFault::NoMemory => Err(Stop::NoMemory),
                 // `apply` gives no fault but this one.
@@ -137,7 +145,8 @@ impl Session {
             outcome: Outcome::Refused(refusal),
             lasting: false,
         };
-        self.tell(outside, number, &answer, steps)?;
+        // The reply doesn't depend on the moment.
+        self.tell(outside, Line { number, moment: 0 }, &answer, steps)?;
         self.ease(outside, steps)
     }
 }

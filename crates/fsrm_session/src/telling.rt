@@ -1,12 +1,11 @@
 //! Replies are told: to the device if all is kept that they tell of, and else to the text that waits.
 
 ghost use Rattle.std.specs.Prelude.{◌≡◌, ◌≤◌, ◌+◌, [], false, OnOk, OnErr, MatchResult, IsErrOf, Err};
-ghost use Rattle.fsrm_model.specs.commands.Cost.{acts_cost, print_cost};
 ghost use Rattle.fsrm_model.specs.meaning.Named.{IsNamed};
 ghost use Rattle.fsrm_store.specs.Standing.{KeepsJournal};
 ghost use Rattle.fsrm_session.specs.Counts.{Counts};
 ghost use Rattle.fsrm_session.specs.Members.{members};
-ghost use Rattle.fsrm_session.specs.Turns.{told};
+ghost use Rattle.fsrm_session.specs.Turns.{telling_cost, told};
 ghost use Rattle.fsrm_session.specs.Underway.{CanFlush, CanTake, StopsTelling, Tells};
 
 use crate::batch::Batch;
@@ -17,13 +16,14 @@ use crate::stop::Stop;
 use fsrm_model::{Answer, Ledger, Steps};
 use fsrm_outside::Outside;
 use line_parts::TextFault;
+use reply_text::Line;
 
 impl Session {
     // Tells a reply while no entry is held: up to 65,536 bytes wait, and what waited longer is written.
     fn write<O: Outside, L: Ledger>(
         &mut self,
         outside: &mut O,
-        number: u64,
+        line: Line,
         answer: &Answer,
         steps: &mut Steps<L>,
     ) -> Result<(), Stop>
@@ -31,7 +31,7 @@ impl Session {
         requires none { self.old.store.journal.held ≡ 0 }
         requires named { IsNamed self.old.store.engine.rows answer.now.outcome }
         requires calm { answer.now.lasting ≡ false → self.old.store.engine.waiting ≡ [] }
-        ensures runs { MatchResult result (λ _. Tells (members O.Source O.Sink O.Disk) (told self.old.store.engine.size self.old.store.engine.rows self.old.store.engine.waiting number answer.now.outcome) self.old self.new outside.old outside.new) (λ stop. StopsTelling (members O.Source O.Sink O.Disk) stop (told self.old.store.engine.size self.old.store.engine.rows self.old.store.engine.waiting number answer.now.outcome) self.old self.new outside.old outside.new) }
+        ensures runs { MatchResult result (λ _. Tells (members O.Source O.Sink O.Disk) (told self.old.store.engine.size self.old.store.engine.rows self.old.store.engine.waiting line answer.now.outcome) self.old self.new outside.old outside.new) (λ stop. StopsTelling (members O.Source O.Sink O.Disk) stop (told self.old.store.engine.size self.old.store.engine.rows self.old.store.engine.waiting line answer.now.outcome) self.old self.new outside.old outside.new) }
         ensures ready { OnOk result (CanTake O.reads self.new outside.new) }
         ensures memory { IsErrOf result Stop.NoMemory → CanFlush O.reads self.new outside.new }
         ensures counts { Counts result (O.write_faults outside.old) (O.write_faults outside.new) (O.disk_faults outside.old) (O.disk_faults outside.new) }
@@ -39,20 +39,13 @@ impl Session {
         ensures left { O.left outside.new ≡ O.left outside.old }
         ensures size { self.new.store.engine.size ≡ self.old.store.engine.size }
         ensures journal { KeepsJournal self.old.store self.new.store }
-        ensures looks { steps.new ≤ steps.old + (print_cost self.old.store.engine.rows answer.now.outcome + acts_cost self.old.store.engine.rows.nodes self.old.store.engine.waiting) }
+        ensures looks { steps.new ≤ steps.old + telling_cost self.old.store.engine.size self.old.store.engine.rows self.old.store.engine.waiting line.moment answer.now.outcome }
     {
         let mut batch = Batch {
             waiting: &mut self.kept,
             device: outside,
         };
-        match write_reply(
-            &mut self.store,
-            self.alloc,
-            &mut batch,
-            number,
-            answer,
-            steps,
-        ) {
+        match write_reply(&mut self.store, self.alloc, &mut batch, line, answer, steps) {
             Ok(()) => Ok(()),
             Err(TextFault::WriteFault) => Err(Stop::WriteFault),
             Err(TextFault::NoMemory) => Err(Stop::NoMemory),
@@ -63,37 +56,28 @@ impl Session {
     fn keep<O: Outside, L: Ledger>(
         &mut self,
         outside: &mut O,
-        number: u64,
+        line: Line,
         answer: &Answer,
         steps: &mut Steps<L>,
     ) -> Result<(), Stop>
         requires ready { CanFlush O.reads self.old outside.old }
         requires named { IsNamed self.old.store.engine.rows answer.now.outcome }
         requires calm { answer.now.lasting ≡ false → self.old.store.engine.waiting ≡ [] }
-        ensures runs { MatchResult result (λ _. Tells (members O.Source O.Sink O.Disk) (told self.old.store.engine.size self.old.store.engine.rows self.old.store.engine.waiting number answer.now.outcome) self.old self.new outside.old outside.new) (λ stop. StopsTelling (members O.Source O.Sink O.Disk) stop (told self.old.store.engine.size self.old.store.engine.rows self.old.store.engine.waiting number answer.now.outcome) self.old self.new outside.old outside.new) }
+        ensures runs { MatchResult result (λ _. Tells (members O.Source O.Sink O.Disk) (told self.old.store.engine.size self.old.store.engine.rows self.old.store.engine.waiting line answer.now.outcome) self.old self.new outside.old outside.new) (λ stop. StopsTelling (members O.Source O.Sink O.Disk) stop (told self.old.store.engine.size self.old.store.engine.rows self.old.store.engine.waiting line answer.now.outcome) self.old self.new outside.old outside.new) }
         ensures same { outside.new ≡ outside.old }
         ensures only { OnErr result (result ≡ Err Stop.NoMemory) }
         ensures ready { OnOk result (CanTake O.reads self.new outside.new) }
         ensures memory { IsErrOf result Stop.NoMemory → CanFlush O.reads self.new outside.new }
         ensures size { self.new.store.engine.size ≡ self.old.store.engine.size }
         ensures journal { KeepsJournal self.old.store self.new.store }
-        ensures looks { steps.new ≤ steps.old + (print_cost self.old.store.engine.rows answer.now.outcome + acts_cost self.old.store.engine.rows.nodes self.old.store.engine.waiting) }
+        ensures looks { steps.new ≤ steps.old + telling_cost self.old.store.engine.size self.old.store.engine.rows self.old.store.engine.waiting line.moment answer.now.outcome }
     {
         let mark = self.kept.len();
         let mut text = Kept {
             bytes: &mut self.kept,
             faults: 0,
         };
-        if write_reply(
-            &mut self.store,
-            self.alloc,
-            &mut text,
-            number,
-            answer,
-            steps,
-        )
-        .is_err()
-        {
+        if write_reply(&mut self.store, self.alloc, &mut text, line, answer, steps).is_err() {
             self.kept.truncate(mark);
             return Err(Stop::NoMemory);
         }
@@ -104,14 +88,14 @@ impl Session {
     pub(crate) fn tell<O: Outside, L: Ledger>(
         &mut self,
         outside: &mut O,
-        number: u64,
+        line: Line,
         answer: &Answer,
         steps: &mut Steps<L>,
     ) -> Result<(), Stop>
         requires ready { CanFlush O.reads self.old outside.old }
         requires named { IsNamed self.old.store.engine.rows answer.now.outcome }
         requires calm { answer.now.lasting ≡ false → self.old.store.engine.waiting ≡ [] }
-        ensures runs { MatchResult result (λ _. Tells (members O.Source O.Sink O.Disk) (told self.old.store.engine.size self.old.store.engine.rows self.old.store.engine.waiting number answer.now.outcome) self.old self.new outside.old outside.new) (λ stop. StopsTelling (members O.Source O.Sink O.Disk) stop (told self.old.store.engine.size self.old.store.engine.rows self.old.store.engine.waiting number answer.now.outcome) self.old self.new outside.old outside.new) }
+        ensures runs { MatchResult result (λ _. Tells (members O.Source O.Sink O.Disk) (told self.old.store.engine.size self.old.store.engine.rows self.old.store.engine.waiting line answer.now.outcome) self.old self.new outside.old outside.new) (λ stop. StopsTelling (members O.Source O.Sink O.Disk) stop (told self.old.store.engine.size self.old.store.engine.rows self.old.store.engine.waiting line answer.now.outcome) self.old self.new outside.old outside.new) }
         ensures ready { OnOk result (CanTake O.reads self.new outside.new) }
         ensures memory { IsErrOf result Stop.NoMemory → CanFlush O.reads self.new outside.new }
         ensures counts { Counts result (O.write_faults outside.old) (O.write_faults outside.new) (O.disk_faults outside.old) (O.disk_faults outside.new) }
@@ -119,12 +103,12 @@ impl Session {
         ensures left { O.left outside.new ≡ O.left outside.old }
         ensures size { self.new.store.engine.size ≡ self.old.store.engine.size }
         ensures journal { KeepsJournal self.old.store self.new.store }
-        ensures looks { steps.new ≤ steps.old + (print_cost self.old.store.engine.rows answer.now.outcome + acts_cost self.old.store.engine.rows.nodes self.old.store.engine.waiting) }
+        ensures looks { steps.new ≤ steps.old + telling_cost self.old.store.engine.size self.old.store.engine.rows self.old.store.engine.waiting line.moment answer.now.outcome }
     {
         if self.store.held() == 0 {
-            self.write(outside, number, answer, steps)
+            self.write(outside, line, answer, steps)
         } else {
-            self.keep(outside, number, answer, steps)
+            self.keep(outside, line, answer, steps)
         }
     }
 }

@@ -143,14 +143,15 @@ fn row_at(engine: &Engine, section: Section, place: u32) -> RowRef<'_>
 {
     let objects = engine.objects();
     match section {
-        // There are no jobs, and the nodes come one after the other.
-        Section::Start | Section::Nodes | Section::Jobs => start(engine),
+        // The nodes come one after the other.
+        Section::Start | Section::Nodes => start(engine),
         Section::Quotas => RowRef::Quota(objects.quota_at(place)),
         Section::Templates => RowRef::Template(engine.templates().template_at(place)),
         Section::Autos => RowRef::Auto(engine.templates().auto_at(place)),
         Section::Groups => RowRef::Group(engine.groups().at(place)),
         Section::Screens => RowRef::Screen(objects.screen_at(place)),
         Section::Excepts => RowRef::Except(objects.except_at(place)),
+        Section::Jobs => RowRef::Job(objects.job_at(place)),
         Section::Acts => RowRef::Act(engine.marks().log_at(place)),
         Section::Audits => audit_at(engine, place),
     }
@@ -195,8 +196,7 @@ fn count_of(engine: &Engine, section: Section) -> u32
         Section::Groups => engine.groups().count(),
         Section::Screens => objects.screen_count(),
         Section::Excepts => objects.except_count(),
-        // An engine has none.
-        Section::Jobs => 0,
+        Section::Jobs => objects.job_count(),
         Section::Acts => engine.marks().log_len(),
         Section::Audits => engine.audit().len(),
     }

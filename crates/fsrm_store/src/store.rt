@@ -159,9 +159,10 @@ impl Store {
         ensures counted { IsErrOf result DiskFault ⊎ (D.disk_faults disk.new ≡ D.disk_faults disk.old) }
     {
         let answer = self.engine.apply(alloc, command, steps)?;
-        if answer.lasting {
-            self.keep(disk, &entry_of(command, &answer.outcome), steps)?;
+        if !answer.lasting {
+            return Ok(answer);
         }
+        self.keep(disk, &entry_of(command, &answer.outcome), steps)?;
         Ok(answer)
     }
 
@@ -207,9 +208,10 @@ impl Store {
         ensures counted { IsErrOf result DiskFault ⊎ (D.disk_faults disk.new ≡ D.disk_faults disk.old) }
     {
         let answer = self.engine.file_op(alloc, op, moment, steps)?;
-        if answer.lasting {
-            self.keep(disk, &EntryRef::Op { moment, op }, steps)?;
+        if !answer.lasting {
+            return Ok(answer);
         }
+        self.keep(disk, &EntryRef::Op { moment, op }, steps)?;
         Ok(answer)
     }
 }

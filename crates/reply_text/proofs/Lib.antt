@@ -7,3 +7,5 @@ pub mod Settings
 pub mod LabelledLines
 pub mod ScreenLines
 pub mod TemplateLines
+pub mod ReportRows
+pub mod ReportLines

@@ -15,7 +15,7 @@ use Rattle.fsrm_model.specs.declared.command.Act.{Act}
 use Rattle.fsrm_model.specs.declared.command.Outcome.{Outcome}
 use Rattle.fsrm_model.specs.declared.command.Refusal.{Refusal}
 use Rattle.fsrm_model.specs.declared.command.Refusal.TheVariants.{BadLine}
-use Rattle.fsrm_model.specs.declared.command.Outcome.TheVariants.{Listing}
+use Rattle.fsrm_model.specs.declared.command.Outcome.TheVariants.{Listing, Report}
 use Rattle.fsrm_model.specs.texts.ActText.{at_lines, entry_line, subject_words}
 use Rattle.fsrm_model.specs.texts.ActionWords.{action_words, kind_word}
 use Rattle.fsrm_model.specs.texts.Printed.{deep_line, labelled_line, type_word}
@@ -90,10 +90,11 @@ quota_text quota used path =
     body_line (decimal quota.limit ∷ type_word quota.enforce ∷ state_word quota.state ∷ used_word used
     ∷ decimal quota.peak ∷ moment_text quota.peak_at ∷ path ∷ [])
 
--- whether an outcome is a list
-abbrev pub is_listing : Outcome → Bool
-is_listing (Listing ask) = true
-is_listing other = false
+-- whether the reply to an outcome is more than its first lines: a list or a report
+abbrev pub is_long : Outcome → Bool
+is_long (Listing ask) = true
+is_long (Report ask) = true
+is_long other = false
 
 -- whether a refusal carries a column
 abbrev pub carries_column : Refusal → Bool

@@ -9,13 +9,15 @@ mod actions;
 mod acts;
 mod groups;
 mod heads;
+mod jobs;
 mod lines;
 mod lists;
 mod quota_templates;
 mod replies;
+mod reports;
 mod screens;
 
 pub use acts::write_act;
 pub use heads::write_head;
 pub use lists::write_list;
-pub use replies::write_answer;
+pub use replies::{Line, write_answer};

@@ -20,6 +20,7 @@ ghost use Rattle.line_parts.specs.Writes.{Writes};
 use crate::actions::write_thresholds;
 use crate::acts::write_log;
 use crate::groups::write_groups;
+use crate::jobs::write_jobs;
 use crate::quota_templates::{write_autos, write_templates};
 use crate::screens::{write_excepts, write_screens};
 use fsrm_engine::Engine;
@@ -205,6 +206,7 @@ pub fn write_list<S: Sink, L: Ledger>(
         Ask::Groups => write_groups(sink, engine),
         Ask::Screens => write_screens(alloc, sink, engine, steps),
         Ask::Excepts => write_excepts(alloc, sink, engine, steps),
+        Ask::Jobs => write_jobs(alloc, sink, engine, steps),
         Ask::Settings => write_settings(sink, engine),
         Ask::Acts => write_log(sink, engine.marks()),
     }

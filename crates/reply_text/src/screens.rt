@@ -21,7 +21,8 @@ use fsrm_outside::Sink;
 use line_parts::{Part, TextFault, send};
 use std::alloc::Global;
 
-fn mode_word(active: bool) -> &'static [u8]
+/// The word of a screen that blocks names, or that only reports them.
+pub fn mode_word(active: bool) -> &'static [u8]
     ensures { result.now ≡ mode_word active }
 {
     if active { b"active" } else { b"passive" }

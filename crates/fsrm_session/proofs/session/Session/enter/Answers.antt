@@ -1,9 +1,8 @@
 use Rattle.std.proofs.Common.{◌≤◌, ◌+◌, [], ◌∷◌, arith, refl, sym, ◌∙◌, ap}
 use Rattle.std.specs.Prelude.{Err}
-use Rattle.fsrm_model.specs.commands.Cost.{acts_cost, print_cost}
 use Rattle.fsrm_store.specs.declared.fault.StoreFault.{StoreFault}
 use Rattle.fsrm_store.specs.Amortized.{bytes_left, bytes_since}
-use Rattle.fsrm_session.specs.Turns.{command_turn, told}
+use Rattle.fsrm_session.specs.Turns.{command_turn, telling_cost, told}
 use Rattle.fsrm_session.specs.declared.session.Session.{Session}
 use Rattle.fsrm_session.specs.Spending.{bytes_after}
 use Rattle.fsrm_session.proofs.Entering.{entered_result, full_stops, only_disk, said_told, store_enters, store_stops}
@@ -29,7 +28,7 @@ returns-in-Ok-clause-runs g c =
     let took = c.in-Ok.ensures.ok in
     let command = c.args.command.now in
     let number = c.args.number in
-    entered_result c.tell.result (command_turn e.size number command) (told now.size now.rows now.waiting number outcome) was next c.tell.new.self c.args.outside.now c.apply.new.disk c.tell.new.outside laws
+    entered_result c.tell.result (command_turn e.size number command) (told now.size now.rows now.waiting (record { number = number; moment = command.moment }) outcome) was next c.tell.new.self c.args.outside.now c.apply.new.disk c.tell.new.outside laws
     (said_told e.size now.size e.rows now.rows now.waiting outcome number command took.size_is took.rows_are took.acts_are took.outcome_is)
     (store_enters number command was next c.args.outside.now c.apply.new.disk laws c.apply.ensures.by refl took.size_is took.rows_are (record { leaves = c.apply.ensures.leaves }) (record { stands = c.in-Ok.ensures.store }))
     c.tell.ensures.runs
@@ -60,9 +59,9 @@ returns-in-Ok-clause-looks g c =
     let outcome = c.in-Ok.answer.outcome in
     let command = c.args.command.now in
     let took = c.in-Ok.ensures.ok in
-    let told = print_cost now.rows outcome + acts_cost now.rows.nodes now.waiting in
+    let told = telling_cost now.size now.rows now.waiting command.moment outcome in
     spends_command c.args.number command was c.args.outside.now c.args.steps.now c.apply.new.steps told c.tell.new.steps (bytes_since c.apply.new.self.journal) (bytes_after c.tell.result c.tell.new.self) c.in-Ok.ensures.amortized
-    (told_cost e.size e.rows now.rows now.waiting outcome command took.rows_are took.acts_are took.outcome_is) c.tell.ensures.looks (after_same c.tell.result c.tell.new.self c.apply.new.self.journal c.tell.ensures.journal.journal)
+    (told_cost e.size now.size e.rows now.rows now.waiting outcome command took.size_is took.rows_are took.acts_are took.outcome_is) c.tell.ensures.looks (after_same c.tell.result c.tell.new.self c.apply.new.self.journal c.tell.ensures.journal.journal)
 
 pub returns-in-NoMemory-clause-looks : goal.returns-in-NoMemory-clause-looks
 returns-in-NoMemory-clause-looks g c =

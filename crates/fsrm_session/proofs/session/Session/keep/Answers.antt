@@ -11,7 +11,7 @@ pub returns-then-is_err-clause-runs : goal.returns-then-is_err-clause-runs
 returns-then-is_err-clause-runs g c =
     let was = c.args.self.now in
     let e = was.store.engine in
-    let text = told e.size e.rows e.waiting c.args.number c.args.answer.now.outcome in
+    let text = told e.size e.rows e.waiting c.args.line c.args.answer.now.outcome in
     let reply = c.write_reply in
     let sent = sent_front reply.result _ _ text reply.ensures.writes.text in
     let long : c.len-mark.result ≡ length was.kept.items = omega (arith, c.len-mark.ensures, was.kept.ok.0) in
@@ -25,7 +25,7 @@ pub returns-clause-runs : goal.returns-clause-runs
 returns-clause-runs g c =
     let was = c.args.self.now in
     let e = was.store.engine in
-    let text = told e.size e.rows e.waiting c.args.number c.args.answer.now.outcome in
+    let text = told e.size e.rows e.waiting c.args.line c.args.answer.now.outcome in
     let reply = c.write_reply in
     let sent = sent_whole reply.result _ _ text (sym c.is_err.ensures.value ∙ c.if-is_err.false) reply.ensures.writes.text in
     kept_tells text was (record { store = reply.new.store; kept = reply.new.sink.bytes.now; alloc = was.alloc }) c.args.outside.now (laws_of g.met.O.Sink g.met.O.Disk g.met.O.Outside) reply.ensures.stands

@@ -24,8 +24,8 @@ returns-in_err-tell-clause-runs g c =
     let stop = c.in_err-tell.field-0.0 in
     let fault : c.from_residual.result ≡ Err stop = search rules in
     stops_passed c.from_residual.result stop (turn ∷ []) was c.tell.new.self c.args.outside.now c.tell.new.outside fault
-    (enters_stops stop turn (told e.size e.rows e.waiting c.args.number (Refused c.args.refusal)) was was c.tell.new.self c.args.outside.now c.args.outside.now c.tell.new.outside laws
-    (told_alone e.size e.rows e.waiting c.args.number (Refused c.args.refusal) c.requires.ready.idle)
+    (enters_stops stop turn (told e.size e.rows e.waiting (record { number = c.args.number; moment = 0 }) (Refused c.args.refusal)) was was c.tell.new.self c.args.outside.now c.args.outside.now c.tell.new.outside laws
+    (told_alone e.size e.rows e.waiting (record { number = c.args.number; moment = 0 }) (Refused c.args.refusal) c.requires.ready.idle)
     (idle_enters turn was c.args.outside.now laws (λ R. refl)) c.in_err-tell.ensures.runs)
 
 pub returns-clause-runs : goal.returns-clause-runs
@@ -35,8 +35,8 @@ returns-clause-runs g c =
     let e = was.store.engine in
     let turn = refused_turn e.size c.args.number c.args.refusal in
     after_ease c.ease.result (turn ∷ []) was c.tell.new.self c.ease.new.self c.args.outside.now c.tell.new.outside c.ease.new.outside laws
-    (enters_tells turn (told e.size e.rows e.waiting c.args.number (Refused c.args.refusal)) was was c.tell.new.self c.args.outside.now c.args.outside.now c.tell.new.outside laws
-    (told_alone e.size e.rows e.waiting c.args.number (Refused c.args.refusal) c.requires.ready.idle)
+    (enters_tells turn (told e.size e.rows e.waiting (record { number = c.args.number; moment = 0 }) (Refused c.args.refusal)) was was c.tell.new.self c.args.outside.now c.args.outside.now c.tell.new.outside laws
+    (told_alone e.size e.rows e.waiting (record { number = c.args.number; moment = 0 }) (Refused c.args.refusal) c.requires.ready.idle)
     (idle_enters turn was c.args.outside.now laws (λ R. refl)) c.in_ok-tell.ensures.runs)
     c.ease.ensures.runs
 
@@ -57,8 +57,8 @@ returns-clause-looks g c =
     let turn = refused_turn e.size c.args.number c.args.refusal in
     let next = c.tell.new.self in
     then_ease (turn ∷ []) was next c.args.outside.now c.tell.new.outside c.args.steps.now c.tell.new.steps c.ease.new.steps (bytes_after c.ease.result c.ease.new.self)
-    (enters_tells turn (told e.size e.rows e.waiting c.args.number (Refused c.args.refusal)) was was next c.args.outside.now c.args.outside.now c.tell.new.outside laws
-    (told_alone e.size e.rows e.waiting c.args.number (Refused c.args.refusal) c.requires.ready.idle)
+    (enters_tells turn (told e.size e.rows e.waiting (record { number = c.args.number; moment = 0 }) (Refused c.args.refusal)) was was next c.args.outside.now c.args.outside.now c.tell.new.outside laws
+    (told_alone e.size e.rows e.waiting (record { number = c.args.number; moment = 0 }) (Refused c.args.refusal) c.requires.ready.idle)
     (idle_enters turn was c.args.outside.now laws (λ R. refl)) c.in_ok-tell.ensures.runs)
     (spends_refused (turn ∷ []) was next c.args.outside.now e.waiting c.args.refusal c.args.steps.now c.tell.new.steps (bytes_since next.store.journal) c.requires.bare c.requires.ready.idle c.tell.ensures.journal.journal (omega arith) c.tell.ensures.looks)
     c.ease.ensures.looks

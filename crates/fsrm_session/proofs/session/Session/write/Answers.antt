@@ -12,7 +12,7 @@ pub returns-in-Ok-clause-runs : goal.returns-in-Ok-clause-runs
 returns-in-Ok-clause-runs g c =
     let was = c.args.self.now in
     let e = was.store.engine in
-    let text = told e.size e.rows e.waiting c.args.number c.args.answer.now.outcome in
+    let text = told e.size e.rows e.waiting c.args.line c.args.answer.now.outcome in
     let batch = c.write_reply.new.sink in
     let next : Session = record { store = c.write_reply.new.store; kept = batch.waiting.now; alloc = was.alloc } in
     let writes = c.in-Ok.ensures.writes in
@@ -24,7 +24,7 @@ pub returns-in-Err-WriteFault-clause-runs : goal.returns-in-Err-WriteFault-claus
 returns-in-Err-WriteFault-clause-runs g c =
     let was = c.args.self.now in
     let e = was.store.engine in
-    let text = told e.size e.rows e.waiting c.args.number c.args.answer.now.outcome in
+    let text = told e.size e.rows e.waiting c.args.line c.args.answer.now.outcome in
     let batch = c.write_reply.new.sink in
     let next : Session = record { store = c.write_reply.new.store; kept = batch.waiting.now; alloc = was.alloc } in
     let writes = c.in-Err-WriteFault.ensures.writes in
@@ -38,7 +38,7 @@ pub returns-in-Err-NoMemory-clause-runs : goal.returns-in-Err-NoMemory-clause-ru
 returns-in-Err-NoMemory-clause-runs g c =
     let was = c.args.self.now in
     let e = was.store.engine in
-    let text = told e.size e.rows e.waiting c.args.number c.args.answer.now.outcome in
+    let text = told e.size e.rows e.waiting c.args.line c.args.answer.now.outcome in
     let batch = c.write_reply.new.sink in
     let next : Session = record { store = c.write_reply.new.store; kept = batch.waiting.now; alloc = was.alloc } in
     let writes = c.in-Err-NoMemory.ensures.writes in

@@ -1,4 +1,5 @@
 use Rattle.std.proofs.Common.{inl, refl, sym, ◌∙◌, ◌≡◌, length, subst, ap, arith}
+use Rattle.std.proofs.lemmas.Bool.{not-false, not-true}
 use Rattle.std.specs.Prelude.{◌&&◌, Err}
 use Rattle.fsrm_base.proofs.TestLaws.{both, le_is}
 use Rattle.fsrm_model.specs.declared.command.Deed.{Deed}
@@ -22,7 +23,7 @@ pub keep-requires-clause-writable : goal.keep-requires-clause-writable
 keep-requires-clause-writable g c =
     let t = c.in_ok-answer.ensures.ok in
     let old = c.args.self.now.engine in
-    let lasts = sym t.lasting_is ∙ c.if-answer.true in
+    let lasts = sym t.lasting_is ∙ not-false _ c.if-not-answer.false in
     entry_writable old.size old.rows (record { moment = c.args.moment; deed = File c.args.op.now }) (valid_by_test old.size old.rows c.args.self.now.valid) c.requires.valid lasts
 
 pub returns-in_err-answer-clause-leaves : goal.returns-in_err-answer-clause-leaves
@@ -34,41 +35,41 @@ returns-in_err-keep-clause-leaves g c kept s =
     let old = c.args.self.now.engine in
     leaves_as kept t.size_is t.rows_are
     (c.keep.ensures.leaves kept old.rows (stands_on _ s refl t.size_is refl refl)
-    (leads old.size _ old.rows _ (record { moment = c.args.moment; deed = File c.args.op.now }) _ c.requires.valid (sym t.lasting_is ∙ c.if-answer.true) refl t.size_is t.rows_are))
+    (leads old.size _ old.rows _ (record { moment = c.args.moment; deed = File c.args.op.now }) _ c.requires.valid (sym t.lasting_is ∙ not-false _ c.if-not-answer.false) refl t.size_is t.rows_are))
 
-pub returns-in_ok-keep-clause-leaves : goal.returns-in_ok-keep-clause-leaves
-returns-in_ok-keep-clause-leaves g c kept s =
+pub returns-clause-leaves : goal.returns-clause-leaves
+returns-clause-leaves g c kept s =
     let t = c.in_ok-answer.ensures.ok in
     let old = c.args.self.now.engine in
     leaves_as kept t.size_is t.rows_are
     (c.keep.ensures.leaves kept old.rows (stands_on _ s refl t.size_is refl refl)
-    (leads old.size _ old.rows _ (record { moment = c.args.moment; deed = File c.args.op.now }) _ c.requires.valid (sym t.lasting_is ∙ c.if-answer.true) refl t.size_is t.rows_are))
+    (leads old.size _ old.rows _ (record { moment = c.args.moment; deed = File c.args.op.now }) _ c.requires.valid (sym t.lasting_is ∙ not-false _ c.if-not-answer.false) refl t.size_is t.rows_are))
 
-pub returns-in_ok-keep-clause-store : goal.returns-in_ok-keep-clause-store
-returns-in_ok-keep-clause-store g c kept s =
+pub returns-clause-store : goal.returns-clause-store
+returns-clause-store g c kept s =
     let t = c.in_ok-answer.ensures.ok in
     let old = c.args.self.now.engine in
     c.in_ok-keep.ensures.store kept old.rows (stands_on _ s refl t.size_is refl refl)
-    (leads old.size _ old.rows _ (record { moment = c.args.moment; deed = File c.args.op.now }) _ c.requires.valid (sym t.lasting_is ∙ c.if-answer.true) refl t.size_is t.rows_are)
+    (leads old.size _ old.rows _ (record { moment = c.args.moment; deed = File c.args.op.now }) _ c.requires.valid (sym t.lasting_is ∙ not-false _ c.if-not-answer.false) refl t.size_is t.rows_are)
 
-pub returns-else-answer-clause-leaves : goal.returns-else-answer-clause-leaves
-returns-else-answer-clause-leaves g c kept s = stands_still _ _ s refl
+pub returns-then-not-answer-clause-leaves : goal.returns-then-not-answer-clause-leaves
+returns-then-not-answer-clause-leaves g c kept s = stands_still _ _ s refl
 
-pub returns-else-answer-clause-store : goal.returns-else-answer-clause-store
-returns-else-answer-clause-store g c kept s =
+pub returns-then-not-answer-clause-store : goal.returns-then-not-answer-clause-store
+returns-then-not-answer-clause-store g c kept s =
     let t = c.in_ok-answer.ensures.ok in
-    settled (none_held _ (record { moment = c.args.moment; deed = File c.args.op.now }) s c.requires.valid (sym t.lasting_is ∙ c.if-answer.false) refl t.size_is t.rows_are refl refl)
+    settled (none_held _ (record { moment = c.args.moment; deed = File c.args.op.now }) s c.requires.valid (sym t.lasting_is ∙ not-true _ c.if-not-answer.true) refl t.size_is t.rows_are refl refl)
 
-pub returns-in_ok-keep-clause-ok : goal.returns-in_ok-keep-clause-ok
-returns-in_ok-keep-clause-ok g c =
+pub returns-clause-ok : goal.returns-clause-ok
+returns-clause-ok g c =
     let old = c.args.self.now.engine in
     subst (λ (m : Machine). Takes old m (step old.size old.rows (record { moment = c.args.moment; deed = File c.args.op.now })) c.in_ok-answer.answer) (sym c.keep.ensures.engine) c.in_ok-answer.ensures.ok
 
-pub returns-in_ok-keep-clause-named : goal.returns-in_ok-keep-clause-named
-returns-in_ok-keep-clause-named g c = subst (λ (m : Machine). IsNamed m.rows c.in_ok-answer.answer.outcome) (sym c.keep.ensures.engine) c.in_ok-answer.ensures.named
+pub returns-clause-named : goal.returns-clause-named
+returns-clause-named g c = subst (λ (m : Machine). IsNamed m.rows c.in_ok-answer.answer.outcome) (sym c.keep.ensures.engine) c.in_ok-answer.ensures.named
 
-pub returns-in_ok-keep-clause-looks : goal.returns-in_ok-keep-clause-looks
-returns-in_ok-keep-clause-looks g c = omega (arith, c.file_op.ensures.looks, c.keep.ensures.looks, ap (λ (m : Machine). length m.rows.nodes) c.keep.ensures.engine)
+pub returns-clause-looks : goal.returns-clause-looks
+returns-clause-looks g c = omega (arith, c.file_op.ensures.looks, c.keep.ensures.looks, ap (λ (m : Machine). length m.rows.nodes) c.keep.ensures.engine)
 
 pub file_op-requires-clause-valid : goal.file_op-requires-clause-valid
 file_op-requires-clause-valid g c =
@@ -93,7 +94,7 @@ pub returns-in_err-keep-clause-amortized : goal.returns-in_err-keep-clause-amort
 returns-in_err-keep-clause-amortized g c kept s =
     let t = c.in_ok-answer.ensures.ok in
     let old = c.args.self.now.engine in
-    let lasts = sym t.lasting_is ∙ c.if-answer.true in
+    let lasts = sym t.lasting_is ∙ not-false _ c.if-not-answer.false in
     let l = leads old.size _ old.rows _ (record { moment = c.args.moment; deed = File c.args.op.now }) _ c.requires.valid lasts refl t.size_is t.rows_are in
     let bytes = entry_bytes old.size old.rows (record { moment = c.args.moment; deed = File c.args.op.now }) _ lasts refl in
     let p = err_from_is_err_and c.from_residual-in_err-keep.result c.from_residual-in_err-keep.ensures.1 in
@@ -101,28 +102,28 @@ returns-in_err-keep-clause-amortized g c kept s =
     let failed : c.in_err-keep.field-0.0 ≡ DiskFault = cc c.in_err-keep.ensures.only in
     left_same _ _ _ _ _ _ _ _ c.in_err-keep.ensures.only (p.1 ∙ ap Err (p.2 ∙ failed)) (renamed _ _ _ _ _ _ _ _ same c.file_op.ensures.looks (omega (arith, bytes)) (c.in_err-keep.ensures.amortized kept old.rows (stands_on _ s refl t.size_is refl refl) l))
 
-pub returns-in_ok-keep-clause-amortized : goal.returns-in_ok-keep-clause-amortized
-returns-in_ok-keep-clause-amortized g c kept s =
+pub returns-clause-amortized : goal.returns-clause-amortized
+returns-clause-amortized g c kept s =
     let t = c.in_ok-answer.ensures.ok in
     let old = c.args.self.now.engine in
-    let lasts = sym t.lasting_is ∙ c.if-answer.true in
+    let lasts = sym t.lasting_is ∙ not-false _ c.if-not-answer.false in
     let l = leads old.size _ old.rows _ (record { moment = c.args.moment; deed = File c.args.op.now }) _ c.requires.valid lasts refl t.size_is t.rows_are in
     let bytes = entry_bytes old.size old.rows (record { moment = c.args.moment; deed = File c.args.op.now }) _ lasts refl in
     let same = ap (λ (R : Rows). length R.nodes) t.rows_are in
     renamed _ _ _ _ _ _ _ _ same c.file_op.ensures.looks (omega (arith, bytes)) (c.in_ok-keep.ensures.amortized kept old.rows (stands_on _ s refl t.size_is refl refl) l)
 
-pub returns-else-answer-clause-amortized : goal.returns-else-answer-clause-amortized
-returns-else-answer-clause-amortized g c kept s = unpaid _ _ _ _ _ (omega (arith, c.file_op.ensures.looks)) (omega arith)
+pub returns-then-not-answer-clause-amortized : goal.returns-then-not-answer-clause-amortized
+returns-then-not-answer-clause-amortized g c kept s = unpaid _ _ _ _ _ (omega (arith, c.file_op.ensures.looks)) (omega arith)
 
 -- ---- when an image is written
-pub returns-in_ok-keep-clause-half : goal.returns-in_ok-keep-clause-half
-returns-in_ok-keep-clause-half g c kept s =
+pub returns-clause-half : goal.returns-clause-half
+returns-clause-half g c kept s =
     let t = c.in_ok-answer.ensures.ok in
     let old = c.args.self.now.engine in
-    let lasts = sym t.lasting_is ∙ c.if-answer.true in
+    let lasts = sym t.lasting_is ∙ not-false _ c.if-not-answer.false in
     let l = leads old.size _ old.rows _ (record { moment = c.args.moment; deed = File c.args.op.now }) _ c.requires.valid lasts refl t.size_is t.rows_are in
     let bytes = entry_bytes old.size old.rows (record { moment = c.args.moment; deed = File c.args.op.now }) _ lasts refl in
     half_then _ _ _ _ _ _ (c.in_ok-keep.ensures.half kept old.rows (stands_on _ s refl t.size_is refl refl) l) (record { ruling = refl; image_end = refl; image = refl }) (record { ruling = refl; image_end = refl; image = refl }) (omega (arith, bytes))
 
-pub returns-else-answer-clause-half : goal.returns-else-answer-clause-half
-returns-else-answer-clause-half g c kept s = inl (record { ruling = refl; image_end = refl; image = refl })
+pub returns-then-not-answer-clause-half : goal.returns-then-not-answer-clause-half
+returns-then-not-answer-clause-half g c kept s = inl (record { ruling = refl; image_end = refl; image = refl })
