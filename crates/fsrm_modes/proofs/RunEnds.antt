@@ -22,7 +22,7 @@ use Rattle.fsrm_store.specs.States.{state_of}
 use Rattle.fsrm_store.specs.States.State.{DamagedAt, Holds, NoState}
 use Rattle.program_words.specs.Modes.{IsLegal}
 use Rattle.program_words.specs.declared.modes.Mode.{Mode}
-use Rattle.program_words.specs.declared.modes.Mode.TheVariants.{Init, Replay, Show}
+use Rattle.program_words.specs.declared.modes.Mode.TheVariants.{Init, Replay, Show, Outbox}
 use Rattle.fsrm_modes.specs.Answers.{most_taken, Fits, FitsInit, FitsReplay, FitsShow, IsDoneOrNoMemory, IsQuiet, IsTooLong, Tells, TellsNew, TellsStore}
 use Rattle.fsrm_modes.specs.Bytes.{TakenMost}
 use Rattle.fsrm_modes.specs.Promises.{Begins, Replays, Shows}
@@ -91,6 +91,7 @@ pub idle_tells : (asked : Mode) (parts : Parts) → Tells asked parts NoMemory
 idle_tells (Init size) parts = tt
 idle_tells (Replay group) parts = tt
 idle_tells Show parts = tt
+idle_tells (Outbox since) parts = tt
 
 -- ---- how much was taken
 
@@ -197,17 +198,28 @@ asked_for o a b p q = some_is (sym p ∙ q)
 pub asked_none : (o : Option Mode) (a : Mode) → o ≡ Some a → o ≡ None → ⊥
 asked_none o a p q = absurd (cc)
 
-pub init_replay : (o : Option Mode) (size : Capacity) (group : ℕ) → o ≡ Some (Init size) → o ≡ Some (Replay group) → ⊥
-init_replay o size group p q = absurd (cc)
+-- and none of another kind
+abbrev pub AreOfKind : Mode → Mode → Type 0
+AreOfKind (Init a) (Init b) = Unit {0}
+AreOfKind (Replay a) (Replay b) = Unit {0}
+AreOfKind Show Show = Unit {0}
+AreOfKind (Outbox a) (Outbox b) = Unit {0}
+AreOfKind a b = ⊥
 
-pub init_show : (o : Option Mode) (size : Capacity) → o ≡ Some (Init size) → o ≡ Some Show → ⊥
-init_show o size p q = absurd (cc)
+of_own_kind : (a : Mode) → AreOfKind a a
+of_own_kind (Init size) = tt
+of_own_kind (Replay group) = tt
+of_own_kind Show = tt
+of_own_kind (Outbox since) = tt
 
-pub replay_show : (o : Option Mode) (group : ℕ) → o ≡ Some (Replay group) → o ≡ Some Show → ⊥
-replay_show o group p q = absurd (cc)
+pub no_other : (o : Option Mode) (a b : Mode) → o ≡ Some a → o ≡ Some b → AreOfKind a b
+no_other o a b p q = subst (AreOfKind a) (asked_for o a b p q) (of_own_kind a)
 
 pub same_init : (o : Option Mode) (a b : Capacity) → o ≡ Some (Init a) → o ≡ Some (Init b) → a ≡ b
 same_init o a b p q = cc
+
+pub same_outbox : (o : Option Mode) (a b : ℕ) → o ≡ Some (Outbox a) → o ≡ Some (Outbox b) → a ≡ b
+same_outbox o a b p q = cc
 
 -- how a store is made
 pub init_not : (s : Status) → (s ≡ Done) ⊎ (s ≡ AlreadyStore) ⊎ (s ≡ DiskFault) ⊎ (s ≡ NoMemory) → (s ≢ Usage) × (s ≢ ReadFault) × (s ≢ WriteFault) × (s ≢ TooLong)
@@ -251,6 +263,7 @@ pub idle_fits : (asked : Mode) → Fits asked NoMemory
 idle_fits (Init size) = tt
 idle_fits (Replay group) = tt
 idle_fits Show = tt
+idle_fits (Outbox since) = tt
 
 -- and what the statuses of idle runs aren't
 pub usage_not : (Usage ≢ TooLong) × (Usage ≢ ReadFault) × (Usage ≢ WriteFault) × (Usage ≢ DiskFault)

@@ -1,13 +1,11 @@
--- What a run of show promises, from the list that it wrote.
+-- What a run promises that shows a text over the rows of a store, from what it wrote.
 use Rattle.std.proofs.Common.{◌≡◌, ◌≢◌, ⊎_elim, ℕ, ◌+◌, ◌≤◌, Some, List, [], ◌++◌, length, refl, sym, ◌∙◌, ap, subst, arith}
 use Rattle.std.specs.Prelude.{None, Option, Result, Ok, Err, IsErrOf}
 use Rattle.std.specs.Io.KnownBytes.{append_known}
 use Rattle.std.proofs.lemmas.Bool.{cases_lt}
 use Rattle.std.proofs.lemmas.List.{append-nil}
-use Rattle.fsrm_model.specs.declared.command.Ask.TheVariants.{Quotas}
 use Rattle.fsrm_model.specs.declared.row.Capacity.{Capacity}
 use Rattle.fsrm_model.specs.declared.row.Rows.{Rows}
-use Rattle.fsrm_model.specs.texts.Text.{list_lines}
 use Rattle.fsrm_outside.specs.Changes.{Same, Through}
 use Rattle.fsrm_outside.specs.Members.{Members}
 use Rattle.fsrm_outside.specs.Shown.{ShowsFront}
@@ -45,23 +43,22 @@ fault_shows {M = M} fault status K R list before old new laws is ran b =
     go faults.DiskFault s = record { front = s; whole = λ e. absurd (cc) }
     go faults.NoMemory s = record { front = s; whole = λ e. absurd (cc) }
 
--- the rows that are listed are those of the store
-list_is : (K L : Capacity) (R Q : Rows) → Holds K R ≡ Holds L Q → list_lines L Q (Quotas None) ≡ list_lines K R (Quotas None)
-list_is K L R Q e = ap (λ (k : Capacity). list_lines k Q (Quotas None)) (same_size K L R Q e) ∙ ap (λ (x : Rows). list_lines K x (Quotas None)) (same_rows K L R Q e)
+-- the rows are those of the store
+text_is : (text : Capacity → Rows → List ℕ) (K L : Capacity) (R Q : Rows) → Holds K R ≡ Holds L Q → text L Q ≡ text K R
+text_is text K L R Q e = ap (λ (k : Capacity). text k Q) (same_size K L R Q e) ∙ ap (text K) (same_rows K L R Q e)
 
-pub list_shown : {O : Type 0} {M : Members O} (K L : Capacity) (R Q : Rows) (before : List ℕ) (old mid new : O) → Laws M → M.by_disk old mid → (b : Begins M K R before old) → state_of b.parts ≡ Holds L Q
-    → M.shown new ≡ append_known (M.shown mid) (list_lines L Q (Quotas None)) → Shows M (list_lines K R (Quotas None)) Done before new
-list_shown {M = M} K L R Q before old mid new laws ran b state told =
-    let list = list_lines K R (Quotas None) in
-    let whole : M.shown new ≡ Some (before ++ list) =
-    told ∙ ap (append_known (M.shown mid)) (list_is K L R Q (sym b.holds ∙ state)) ∙ ap (λ (o : Option (List ℕ)). append_known o list) ((laws.disk_keeps_sink old mid ran).same_shown ∙ b.shown) in
-    record { front = (list, whole, ([], sym (append-nil list))); whole = λ e. whole }
+pub text_shown : {O : Type 0} {M : Members O} (text : Capacity → Rows → List ℕ) (K L : Capacity) (R Q : Rows) (before : List ℕ) (old mid new : O) → Laws M → M.by_disk old mid → (b : Begins M K R before old) → state_of b.parts ≡ Holds L Q
+    → M.shown new ≡ append_known (M.shown mid) (text L Q) → Shows M (text K R) Done before new
+text_shown {M = M} text K L R Q before old mid new laws ran b state told =
+    let all = text K R in
+    let whole : M.shown new ≡ Some (before ++ all) =
+    told ∙ ap (append_known (M.shown mid)) (text_is text K L R Q (sym b.holds ∙ state)) ∙ ap (λ (o : Option (List ℕ)). append_known o all) ((laws.disk_keeps_sink old mid ran).same_shown ∙ b.shown) in
+    record { front = (all, whole, ([], sym (append-nil all))); whole = λ e. whole }
 
-pub front_shown : {O : Type 0} {M : Members O} (status : Status) (K L : Capacity) (R Q : Rows) (before : List ℕ) (old mid new : O) → Laws M → status ≢ Done → M.by_disk old mid → (b : Begins M K R before old) → state_of b.parts ≡ Holds L Q
-    → ShowsFront (M.shown mid) (M.shown new) (list_lines L Q (Quotas None)) → Shows M (list_lines K R (Quotas None)) status before new
-front_shown {M = M} status K L R Q before old mid new laws other ran b state told =
-    let list = list_lines K R (Quotas None) in
-    let f = subst (ShowsFront (M.shown mid) (M.shown new)) (list_is K L R Q (sym b.holds ∙ state)) told in
+pub front_shown : {O : Type 0} {M : Members O} (status : Status) (text : Capacity → Rows → List ℕ) (K L : Capacity) (R Q : Rows) (before : List ℕ) (old mid new : O) → Laws M → status ≢ Done → M.by_disk old mid → (b : Begins M K R before old) → state_of b.parts ≡ Holds L Q
+    → ShowsFront (M.shown mid) (M.shown new) (text L Q) → Shows M (text K R) status before new
+front_shown {M = M} status text K L R Q before old mid new laws other ran b state told =
+    let f = subst (ShowsFront (M.shown mid) (M.shown new)) (text_is text K L R Q (sym b.holds ∙ state)) told in
     record {
       front = (f.front, f.shown ∙ ap (λ (o : Option (List ℕ)). append_known o f.front) ((laws.disk_keeps_sink old mid ran).same_shown ∙ b.shown), f.is_front);
       whole = λ e. absurd (other e);
@@ -77,7 +74,7 @@ quiet_beside {M = M} old mid new laws first a wrote s t m i at_old at_new from t
     (λ after. a s u.0 u.0 i at_old u.1 u.2 (omega arith) ((keeps.since u.0 t m i u.1 at_new after to).0 left))
     (cases_lt m u.0)
 
--- ---- how the list was written
+-- ---- how the text was written
 text_fault : {T : Type 0} (r : Result T TextFault) (fault is : TextFault) → r ≡ Err fault → fault ≡ is → IsErrOf r is
 text_fault r fault is was same = was ∙ ap (λ (f : TextFault). Err f) same
 
@@ -90,7 +87,7 @@ full_kept (Ok x) fault before now was is same = same
 full_kept (Err texts.NoMemory) fault before now was is same = same
 full_kept (Err texts.WriteFault) fault before now was is same = absurd (cc)
 
--- ---- what the statuses of a list aren't
+-- ---- what the statuses of such a run aren't
 pub done_not : (Done ≢ Usage) × (Done ≢ AlreadyStore) × (Done ≢ TooLong) × (Done ≢ ReadFault) × (Done ≢ WriteFault) × (Done ≢ DiskFault)
 done_not = (λ e. absurd (cc), λ e. absurd (cc), λ e. absurd (cc), λ e. absurd (cc), λ e. absurd (cc), λ e. absurd (cc))
 

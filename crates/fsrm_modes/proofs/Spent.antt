@@ -3,8 +3,6 @@ use Rattle.std.proofs.Common.{◌≡◌, ℕ, true, false, Bool, ◌+◌, ◌*�
 use Rattle.std.specs.Prelude.{◌/◌, Err, Ok, Result, if◌then◌else◌}
 use Rattle.std.proofs.lemmas.List.{append-nil}
 use Rattle.std.proofs.lemmas.Nat.{mul-le}
-use Rattle.fsrm_model.specs.commands.Cost.{print_cost}
-use Rattle.fsrm_model.specs.declared.command.Outcome.{Outcome}
 use Rattle.fsrm_model.specs.declared.row.Capacity.{Capacity}
 use Rattle.fsrm_model.specs.declared.row.Rows.{Rows}
 use Rattle.fsrm_model.specs.lines.Script.{cost_from, lines, replied, script_cost}
@@ -154,17 +152,17 @@ run_few parts K R script store looks opened steps opening holds state old has sp
       omega (arith, all, images, renewed, looks_of-script K R script);
 }
 
--- ---- a list
-pub fault_shown : (parts : Parts) (R : Rows) (outcome : Outcome) (looks steps : ℕ) → FewLooks parts looks steps → FewToShow parts R outcome looks steps
-fault_shown parts R outcome looks steps opening = record { opened = steps; opening = opening; few = omega arith }
+-- ---- a text over the rows of a store
+pub fault_shown : (parts : Parts) (cost looks steps : ℕ) → FewLooks parts looks steps → FewToShow parts cost looks steps
+fault_shown parts cost looks steps opening = record { opened = steps; opening = opening; few = omega arith }
 
-pub list_few : (parts : Parts) (K : Capacity) (R : Rows) (store : Store) (outcome : Outcome) (looks opened steps : ℕ) → FewLooks parts looks opened → state_of parts ≡ Holds K R → state_of parts ≡ Holds store.engine.size store.engine.rows
-    → steps ≤ opened + print_cost store.engine.rows outcome → FewToShow parts R outcome looks steps
-list_few parts K R store outcome looks opened steps opening holds state few = record {
+pub text_few : (parts : Parts) (K : Capacity) (R : Rows) (store : Store) (cost : Rows → ℕ) (looks opened steps : ℕ) → FewLooks parts looks opened → state_of parts ≡ Holds K R → state_of parts ≡ Holds store.engine.size store.engine.rows
+    → steps ≤ opened + cost store.engine.rows → FewToShow parts (cost R) looks steps
+text_few parts K R store cost looks opened steps opening holds state few = record {
   opened = opened;
   opening = opening;
   few =
       let same : Holds K R ≡ Holds store.engine.size store.engine.rows = sym holds ∙ state in
       let rows : R ≡ store.engine.rows = cc in
-      omega (arith, few, ap (λ (S : Rows). print_cost S outcome) rows);
+      omega (arith, few, ap cost rows);
 }

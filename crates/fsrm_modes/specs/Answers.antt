@@ -10,7 +10,7 @@ use Rattle.fsrm_journal.specs.Formatted.{has_store}
 use Rattle.fsrm_store.specs.States.{state_of}
 use Rattle.fsrm_store.specs.States.State.{NoState, DamagedAt, Holds}
 use Rattle.program_words.specs.declared.modes.Mode.{Mode}
-use Rattle.program_words.specs.declared.modes.Mode.TheVariants.{Init, Replay, Show}
+use Rattle.program_words.specs.declared.modes.Mode.TheVariants.{Init, Replay, Show, Outbox}
 use Rattle.fsrm_modes.specs.declared.status.Status.{Status}
 use Rattle.fsrm_modes.specs.declared.status.Status.TheVariants.{Done, Usage, ReadFault, WriteFault, DiskFault, TooLong, Damaged, NoMemory, NoStore, AlreadyStore}
 
@@ -70,24 +70,35 @@ abbrev pub Tells : Mode → Parts → Status → Type 0
 Tells (Init size) parts status = TellsNew parts status
 Tells (Replay group) parts status = TellsStore parts status
 Tells Show parts status = TellsStore parts status
+Tells (Outbox since) parts status = TellsStore parts status
 
 -- the parts that a mode can do nothing with
 abbrev pub IsIdleOver : Mode → Parts → Type 0
 IsIdleOver (Init size) parts = has_store parts ≡ true
 IsIdleOver (Replay group) parts = HoldsNone parts
 IsIdleOver Show parts = HoldsNone parts
+IsIdleOver (Outbox since) parts = HoldsNone parts
 
 -- and those with which it can do all, if no device fails
 abbrev pub IsReadyOver : Mode → Parts → Type 0
 IsReadyOver (Init size) parts = has_store parts ≡ false
 IsReadyOver (Replay group) parts = (size : Capacity) × (rows : Rows) × (state_of parts ≡ Holds size rows)
 IsReadyOver Show parts = (size : Capacity) × (rows : Rows) × (state_of parts ≡ Holds size rows)
+IsReadyOver (Outbox since) parts = (size : Capacity) × (rows : Rows) × (state_of parts ≡ Holds size rows)
 
 -- a mode that takes nothing from the source
 abbrev pub ReadsNothing : Mode → Type 0
 ReadsNothing (Init size) = Unit {0}
 ReadsNothing (Replay group) = ⊥
 ReadsNothing Show = Unit {0}
+ReadsNothing (Outbox since) = Unit {0}
+
+-- a mode that writes nothing to the disk
+abbrev pub WritesNothing : Mode → Type 0
+WritesNothing (Init size) = ⊥
+WritesNothing (Replay group) = ⊥
+WritesNothing Show = Unit {0}
+WritesNothing (Outbox since) = Unit {0}
 
 -- ---- the answers of each mode
 abbrev pub FitsInit : Status → Type 0
@@ -115,3 +126,4 @@ abbrev pub Fits : Mode → Status → Type 0
 Fits (Init size) status = FitsInit status
 Fits (Replay group) status = FitsReplay status
 Fits Show status = FitsShow status
+Fits (Outbox since) status = FitsShow status

@@ -7,3 +7,4 @@ pub mod Places
 pub mod Promises
 pub mod Reading
 pub mod Statuses
+pub mod Views

@@ -1,7 +1,5 @@
 -- Which looks at nodes a run takes.
 use Rattle.std.specs.Prelude.{◌≡◌, ℕ, ◌+◌, ◌*◌, ◌/◌, ◌≤◌, List, [], ◌∷◌, ◌++◌, take, Result, Ok, Err, if◌then◌else◌}
-use Rattle.fsrm_model.specs.commands.Cost.{print_cost}
-use Rattle.fsrm_model.specs.declared.command.Outcome.{Outcome}
 use Rattle.fsrm_model.specs.declared.row.Capacity.{Capacity}
 use Rattle.fsrm_model.specs.declared.row.Rows.{Rows}
 use Rattle.fsrm_model.specs.lines.Script.{is_end, lines, script_cost}
@@ -62,8 +60,8 @@ pub record FewForScript (parts : Parts) (K : Capacity) (R : Rows) (script : List
   pub few : (ruling : Part) (tail most : ℕ) → judged_parts parts ≡ Ok ruling → HasTail tail parts → IsWithin most R (script_turns K script)
       → steps ≤ opened + (if is_first_version ruling parts then 2 * most else 0) + script_cost K R script + (tail + bytes_of R (script_turns K script)) / 1048576 * (2 * most)
 
--- What is shown of the rows of these parts: the looks for opening them, and those of the text.
-pub record FewToShow (parts : Parts) (R : Rows) (outcome : Outcome) (looks steps : ℕ) : Type 0 where
+-- What is shown of the rows of these parts: the looks for opening them, and those that the text takes.
+pub record FewToShow (parts : Parts) (cost looks steps : ℕ) : Type 0 where
   pub opened : ℕ
   pub opening : FewLooks parts looks opened
-  pub few : steps ≤ opened + print_cost R outcome
+  pub few : steps ≤ opened + cost

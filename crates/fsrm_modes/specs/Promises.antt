@@ -47,7 +47,7 @@ pub record Replays {O : Type 0} (M : Members O) (K : Capacity) (R : Rows) (statu
   pub too_long : status ≡ TooLong → IsTooLong script (M.left new)
   pub ended : OnReadStop status (ShowsEnded M K R status script before old new)
 
--- A run of `show` writes a list, or a front of it.
-pub record Shows {O : Type 0} (M : Members O) (list : List ℕ) (status : Status) (before : List ℕ) (new : O) : Type 0 where
-  pub front : ShowsSome M list before new
-  pub whole : status ≡ Done → M.shown new ≡ Some (before ++ list)
+-- A run that shows what a store holds writes a text, or a front of it.
+pub record Shows {O : Type 0} (M : Members O) (text : List ℕ) (status : Status) (before : List ℕ) (new : O) : Type 0 where
+  pub front : ShowsSome M text before new
+  pub whole : status ≡ Done → M.shown new ≡ Some (before ++ text)

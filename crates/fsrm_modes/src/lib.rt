@@ -1,9 +1,9 @@
 //! The program as a library: `run` does what the words ask for, over a store.
 //!
-//! A mode is a file of its own. `init` makes a store. `replay` reads a script in pieces, and has a session take each line
-//! that ends in a piece; at the piece's end the replies are shown whose commands are kept. `show` writes a list. The
-//! invariants of the loops (`specs/Reading`) speak of every way in which the script may go on, so `run`'s clauses hold for
-//! any bytes in any pieces. Of a line no more than 65,538 bytes are held.
+//! `init` makes a store. `replay` reads a script in pieces, and has a session take each line that ends in a piece; at the
+//! piece's end the replies are shown whose commands are kept. `show` writes a text over a store: the list of its quotas,
+//! or its outbox. The invariants of the loops (`specs/Reading`) speak of every way in which the script may go on, so
+//! `run`'s clauses hold for any bytes in any pieces. Of a line no more than 65,538 bytes are held.
 #![tactic(auto)]
 
 mod answering;

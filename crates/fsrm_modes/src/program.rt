@@ -3,8 +3,8 @@
 ghost use Rattle.std.specs.Prelude.{◌≡◌, ◌⊎◌, ◌≤◌, ◌↔◌, ℕ, List, map, None, Some, length};
 ghost use Rattle.std.specs.Option.{ForSome};
 ghost use Rattle.std.specs.String.{string_bytes};
+ghost use Rattle.fsrm_model.specs.commands.Cost.{list_cost};
 ghost use Rattle.fsrm_model.specs.declared.command.Ask.TheVariants.{Quotas};
-ghost use Rattle.fsrm_model.specs.declared.command.Outcome.TheVariants.{Listing};
 ghost use Rattle.fsrm_model.specs.declared.row.Capacity.{Capacity};
 ghost use Rattle.fsrm_model.specs.declared.row.Rows.{Rows};
 ghost use Rattle.fsrm_model.specs.texts.Text.{list_lines};
@@ -17,26 +17,28 @@ ghost use Rattle.fsrm_session.specs.Covers.{Covers};
 ghost use Rattle.fsrm_session.specs.Members.{members};
 ghost use Rattle.fsrm_session.specs.Turns.{script_turns};
 ghost use Rattle.fsrm_store.specs.Init.{IsNew, MakesStore};
+ghost use Rattle.notice_text.specs.Outbox.{outbox_text};
 ghost use Rattle.program_words.specs.Modes.{mode};
 ghost use Rattle.program_words.specs.declared.modes.Mode.{Mode};
-ghost use Rattle.program_words.specs.declared.modes.Mode.TheVariants.{Init, Replay, Show};
-ghost use Rattle.fsrm_modes.specs.Answers.{most_taken, Fits, IsDoneOrNoMemory, IsIdleOver, IsQuiet, IsReadyOver, IsTooLong, ReadsNothing, Tells};
+ghost use Rattle.program_words.specs.declared.modes.Mode.TheVariants.{Init, Replay, Show, Outbox};
+ghost use Rattle.fsrm_modes.specs.Answers.{most_taken, Fits, IsDoneOrNoMemory, IsIdleOver, IsQuiet, IsReadyOver, IsTooLong, ReadsNothing, Tells, WritesNothing};
 ghost use Rattle.fsrm_modes.specs.Bytes.{TakenMost};
 ghost use Rattle.fsrm_modes.specs.Looks.{FewForScript, FewToShow};
 ghost use Rattle.fsrm_modes.specs.Promises.{Begins, Replays, Shows};
 ghost use Rattle.fsrm_modes.specs.Statuses.{KeepsDisk, KeepsReads, KeepsWrites};
+ghost use Rattle.fsrm_modes.specs.Views.{outbox_cost};
 
 use crate::init::init;
 use crate::replay::replay;
-use crate::show::show;
+use crate::show::{View, show};
 use crate::status::Status;
 use fsrm_model::{Ledger, Steps};
 use fsrm_outside::Outside;
 use program_words::{Mode, WordsFault, read_words};
 use std::alloc::Global;
 
-/// Does what the words ask for: `init` makes a store, `replay` runs the script that the source has left over the store, and
-/// `show` writes the list of its quotas.
+/// Does what the words ask for: `init` makes a store, `replay` runs the script that the source has left over the store,
+/// `show` writes the list of its quotas, and `outbox` the latest notice of each action that ran at a moment or later.
 ///
 /// Clauses on what is read, shown and kept hold if the devices tell it.
 pub fn run<O: Outside, L: Ledger>(
@@ -52,10 +54,14 @@ pub fn run<O: Outside, L: Ledger>(
     // whose replies are shown.
     ensures crash { (group : ℕ) (K : Capacity) (R : Rows) (script before : List ℕ) (start : ℕ) → mode (map string_bytes words.now) ≡ Some (Replay group) → O.left outside.old ≡ Some script → Begins (members O.Source O.Sink O.Disk) K R before outside.old
         → O.disk_clock outside.old ≡ Some start → O.sink_clock outside.old ≡ Some start → CrashSafe (members O.Source O.Sink O.Disk) (Covers K R (script_turns K script)) start outside.old outside.new }
-    // ---- `show`: the list of all quotas, and nothing is written to the disk.
+    // ---- `show`: the list of all quotas.
     ensures show { (K : Capacity) (R : Rows) (before : List ℕ) → mode (map string_bytes words.now) ≡ Some Show → Begins (members O.Source O.Sink O.Disk) K R before outside.old
         → Shows (members O.Source O.Sink O.Disk) (list_lines K R (Quotas None)) result before outside.new }
-    ensures unwritten { mode (map string_bytes words.now) ≡ Some Show → (O.reads outside.new ≡ O.reads outside.old) × Through O.disk_clock O.images Same outside.old outside.new }
+    // ---- `outbox`: two lines for each notice since a moment, with its text as the macros in it stand for what the store holds.
+    ensures outbox { (since : ℕ) (K : Capacity) (R : Rows) (before : List ℕ) → mode (map string_bytes words.now) ≡ Some (Outbox since) → Begins (members O.Source O.Sink O.Disk) K R before outside.old
+        → Shows (members O.Source O.Sink O.Disk) (outbox_text K R since) result before outside.new }
+    // Neither writes anything to the disk.
+    ensures unwritten { (asked : Mode) → mode (map string_bytes words.now) ≡ Some asked → WritesNothing asked → (O.reads outside.new ≡ O.reads outside.old) × Through O.disk_clock O.images Same outside.old outside.new }
     // ---- `init`: a new store of this size, and nothing is shown.
     ensures made { (size : Capacity) (parts : Parts) → mode (map string_bytes words.now) ≡ Some (Init size) → O.reads outside.old ≡ Some parts → result ≡ Status.Done → IsNew O.reads O.disk_clock O.images size outside.new }
     ensures making { (size : Capacity) (parts : Parts) → mode (map string_bytes words.now) ≡ Some (Init size) → O.reads outside.old ≡ Some parts → MakesStore O.disk_clock O.images size outside.old outside.new }
@@ -86,18 +92,20 @@ pub fn run<O: Outside, L: Ledger>(
     // Over devices that don't fail all is done, unless memory runs out or the script has more than 2^32 bytes.
     ensures complete { (asked : Mode) (parts : Parts) (script : List ℕ) → mode (map string_bytes words.now) ≡ Some asked → O.reads outside.old ≡ Some parts → O.left outside.old ≡ Some script → IsReadyOver asked parts → length script ≤ longest_script
         → (Rose (O.read_faults outside.old) (O.read_faults outside.new) → ⊥) → (Rose (O.write_faults outside.old) (O.write_faults outside.new) → ⊥) → (Rose (O.disk_faults outside.old) (O.disk_faults outside.new) → ⊥) → IsDoneOrNoMemory result }
-    // ---- looks at nodes: those for opening the store, and those of the script's lines, or of the list; and for each 1 MiB of
-    // records 2 for each node. Other runs take none.
+    // ---- looks at nodes: those for opening the store, and those of the script's lines, of the list or of the notices; and for
+    // each 1 MiB of records 2 for each node. Other runs take none.
     ensures looks { (group : ℕ) (K : Capacity) (R : Rows) (script before : List ℕ) → mode (map string_bytes words.now) ≡ Some (Replay group) → O.left outside.old ≡ Some script → (begins : Begins (members O.Source O.Sink O.Disk) K R before outside.old)
         → FewForScript begins.parts K R script steps.old steps.new }
-    ensures show_looks { (K : Capacity) (R : Rows) (before : List ℕ) → mode (map string_bytes words.now) ≡ Some Show → (begins : Begins (members O.Source O.Sink O.Disk) K R before outside.old) → FewToShow begins.parts R (Listing (Quotas None)) steps.old steps.new }
+    ensures show_looks { (K : Capacity) (R : Rows) (before : List ℕ) → mode (map string_bytes words.now) ≡ Some Show → (begins : Begins (members O.Source O.Sink O.Disk) K R before outside.old) → FewToShow begins.parts (list_cost R (Quotas None)) steps.old steps.new }
+    ensures outbox_looks { (since : ℕ) (K : Capacity) (R : Rows) (before : List ℕ) → mode (map string_bytes words.now) ≡ Some (Outbox since) → (begins : Begins (members O.Source O.Sink O.Disk) K R before outside.old) → FewToShow begins.parts (outbox_cost R since) steps.old steps.new }
     ensures init_looks { (size : Capacity) → mode (map string_bytes words.now) ≡ Some (Init size) → steps.new ≡ steps.old }
     ensures no_looks { mode (map string_bytes words.now) ≡ None → steps.new ≡ steps.old }
 {
     match read_words(alloc, words) {
         Ok(Mode::Init { size }) => init(alloc, outside, size),
         Ok(Mode::Replay { group }) => replay(alloc, outside, group, steps),
-        Ok(Mode::Show) => show(alloc, outside, steps),
+        Ok(Mode::Show) => show(alloc, outside, View::Quotas, steps),
+        Ok(Mode::Outbox { since }) => show(alloc, outside, View::Outbox { since }, steps),
         Err(WordsFault::Usage) => Status::Usage,
         Err(WordsFault::NoMemory) => Status::NoMemory,
     }

@@ -20,11 +20,11 @@ some_length : (n : ℕ) → (nat_lt 0 n && nat_le n 20) ≡ true → 0 < n
 some_length n e = grind (arith, nat_tests)
 
 -- a number whose digits aren't parsed doesn't fit
-pub too_large : {E : Type 0} (text : List ℕ) (r : Result ℕ E) (e : E) → ParsesUnsigned 32 10 text r → r ≡ Err e → is_number text ≡ true → 2 ^ 32 ≤ digits_value 10 text
+pub too_large : {E : Type 0} (text : List ℕ) (r : Result ℕ E) (e : E) → ParsesUnsigned 64 10 text r → r ≡ Err e → is_number text ≡ true → 2 ^ 64 ≤ digits_value 10 text
 too_large {E} text r e h is number =
     let parts = both _ _ number in
-    let large = parse_digits own {E = E} 32 text (Err e) (subst (ParsesUnsigned {E = E} 32 10 text) is h) parts.1 in
+    let large = parse_digits own {E = E} 64 text (Err e) (subst (ParsesUnsigned {E = E} 64 10 text) is h) parts.1 in
     at (digits_value 10 text) (λ less. large (some_length (length text) parts.0, less))
   where
-    at : (n : ℕ) → (n < 2 ^ 32 → ⊥) → 2 ^ 32 ≤ n
+    at : (n : ℕ) → (n < 2 ^ 64 → ⊥) → 2 ^ 64 ≤ n
     at n not = omega arith

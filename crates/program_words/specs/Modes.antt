@@ -1,14 +1,15 @@
 -- What the words ask for: the rules of each mode, over what clap finds in the words.
-use Rattle.std.specs.Prelude.{⊤, ◌≡◌, ℕ, ◌≤◌, ◌==◌, ◌&&◌, ◌||◌, nat_le, Bool, true, false, not, List, [], length, Option, Some, None, is_some, if◌then◌else◌, codes, bytes_eq, unwrap_or}
+use Rattle.std.specs.Prelude.{⊤, ◌≡◌, ℕ, ◌≤◌, ◌==◌, ◌&&◌, ◌||◌, nat_le, Bool, true, false, not, List, [], ◌∷◌, length, Option, Some, None, is_some, option_map, if◌then◌else◌, codes, bytes_eq, unwrap_or}
 use Rattle.std.specs.Option.{option_map_or}
 use Rattle.clap.specs.Words.{Row, Text, all_of, first_of, fault_of, matches_of}
 use Rattle.fsrm_model.specs.declared.row.Capacity.{Capacity}
 use Rattle.fsrm_model.specs.nodes.Fresh.{default_capacity}
 use Rattle.fsrm_model.specs.store.Capacities.{is_capacity}
+use Rattle.fsrm_model.specs.values.Limits.{latest_moment}
 use Rattle.program_words.specs.Command.{fsrm_app}
-use Rattle.program_words.specs.Numbers.{number_of}
+use Rattle.program_words.specs.Numbers.{number_in}
 use Rattle.program_words.specs.declared.modes.Mode.{Mode}
-use Rattle.program_words.specs.declared.modes.Mode.TheVariants.{Init, Replay, Show}
+use Rattle.program_words.specs.declared.modes.Mode.TheVariants.{Init, Replay, Show, Outbox}
 
 -- what is read next, if this could be read
 infixl 10 ◌>>=◌
@@ -39,9 +40,9 @@ gives id rows = is_some (first_of id rows)
 abbrev pub gives_size : List Row → Bool
 gives_size rows = gives (codes "nodes") rows || (gives (codes "names") rows || gives (codes "cluster") rows)
 
--- the number that an option gives, or what holds without it
+-- the number of 32 bits that an option gives, or what holds without it
 abbrev pub number_or : ℕ → Text → List Row → Option ℕ
-number_or usual id rows = option_map_or number_of (first_of id rows) (Some usual)
+number_or usual id rows = option_map_or (number_in 0 4294967295) (first_of id rows) (Some usual)
 
 abbrev pub size_of : List Row → Option Capacity
 size_of rows = do
@@ -64,15 +65,30 @@ replay_mode rows = do
   group ← number_or 1 (codes "group") rows
   guarded (is_group group && (not (gives_size rows) && not (has_rest rows))) (Replay group)
 
-abbrev pub show_mode : List Row → Option Mode
-show_mode rows = guarded (not (gives_size rows) && (not (gives (codes "group") rows) && not (has_rest rows))) Show
+-- The other modes take no option. The words after their names tell the rest.
+abbrev pub gives_none : List Row → Bool
+gives_none rows = not (gives_size rows) && not (gives (codes "group") rows)
+
+abbrev pub show_mode : List Text → Option Mode
+show_mode [] = Some Show
+show_mode words = None
+
+abbrev pub outbox_mode : List Text → Option Mode
+outbox_mode (since ∷ []) = option_map (λ moment. Outbox moment) (number_in 0 latest_moment since)
+outbox_mode words = None
+
+abbrev pub plain_mode : Text → List Text → Option Mode
+plain_mode name words =
+    if bytes_eq name (codes "show") then show_mode words
+    else if bytes_eq name (codes "outbox") then outbox_mode words
+    else None
 
 -- the modes, by the words that name them
 abbrev pub named_mode : Text → List Row → Option Mode
 named_mode name rows =
     if bytes_eq name (codes "init") then init_mode rows
     else if bytes_eq name (codes "replay") then replay_mode rows
-    else if bytes_eq name (codes "show") then show_mode rows
+    else if gives_none rows then plain_mode name (rest_of rows)
     else None
 
 abbrev pub mode_of : List Row → Option Mode
@@ -89,3 +105,4 @@ abbrev pub IsLegal : Mode → Type 0
 IsLegal (Init size) = is_capacity size ≡ true
 IsLegal (Replay group) = (1 ≤ group) × (group ≤ 1024)
 IsLegal Show = ⊤
+IsLegal (Outbox since) = since ≤ latest_moment

@@ -4,7 +4,7 @@ use Rattle.std.specs.List.{slice_split}
 use Rattle.clap.specs.Words.{Text}
 use Rattle.program_words.specs.Modes.{mode}
 use Rattle.program_words.specs.declared.modes.Mode.{Mode}
-use Rattle.program_words.specs.declared.modes.Mode.TheVariants.{Init, Replay, Show}
+use Rattle.program_words.specs.declared.modes.Mode.TheVariants.{Init, Replay, Show, Outbox}
 
 abbrev pub is_blank : ℕ → Bool
 is_blank byte = byte == 32
@@ -62,8 +62,24 @@ options =
     × asks_nothing (codes "show --group 1")
     × asks_nothing (codes "show --cluster 4096")
     × asks_nothing (codes "show --size 8")
+    × asks_nothing (codes "outbox --group 1 0")
+    × asks_nothing (codes "outbox 0 --nodes 2")
 
--- no word follows the mode but `--`, by which clap ends the options
+-- `outbox` takes one moment that has a date. clap takes what begins with `-` for an option, up to `--`
+abbrev pub outboxes : Type 0
+outboxes =
+    asks (codes "outbox 0") (Outbox 0)
+    × asks (codes "outbox 00000000004102444799") (Outbox 4102444799)
+    × asks (codes "outbox -- 8") (Outbox 8)
+    × asks (codes "-- outbox 8") (Outbox 8)
+    × asks_nothing (codes "outbox")
+    × asks_nothing (codes "outbox 4102444800")
+    × asks_nothing (codes "outbox 8 8")
+    × asks_nothing (codes "outbox -8")
+    × asks_nothing (codes "outbox -- -8")
+    × asks_nothing (codes "outbox 000000000000000000008")
+
+-- no word follows another mode but `--`
 abbrev pub other_words : Type 0
 other_words =
     asks (codes "show") Show

@@ -17,9 +17,10 @@ const ABOUT: &str =
     "A file server resource manager: quotas and file screens of a volume, kept in a store.";
 
 const MODES: &str = "\
-init    Make a new store in the current folder
-replay  Read a script from standard input, and write the replies to standard output
-show    List the quotas";
+init          Make a new store in the current folder
+replay        Read a script from standard input, and write the replies to standard output
+show          List the quotas
+outbox SINCE  List the latest notice of each action that ran at SINCE or later; SINCE is a moment";
 
 const STORE: &str = "\
 A store is two files of the current folder, fsrm.store.0 and fsrm.store.1. Each line of a script is a
@@ -55,12 +56,14 @@ fn mode<'a>(alloc: Global) -> Arg<'a>
     Arg::new(alloc, "MODE").required(true).help(MODES)
 }
 
-// The words after it. No mode has any yet, so help doesn't show them.
+// The words after it.
 fn rest<'a>(alloc: Global) -> Arg<'a>
     ensures rule { rule_of result ≡ rest_rule }
     ensures local { result.global ≡ false }
 {
-    Arg::new(alloc, "REST").num_args(..).hide(true)
+    Arg::new(alloc, "REST")
+        .num_args(..)
+        .help("Words of the mode, as the list of modes shows them")
 }
 
 // The command without arguments.

@@ -1,6 +1,6 @@
 //! What holds of the definitions.
 
-ghost use Rattle.program_words.specs.Worked.{new_stores, sizes_out_of_range, groups, numbers, options, other_words, no_modes};
+ghost use Rattle.program_words.specs.Worked.{new_stores, sizes_out_of_range, groups, numbers, options, outboxes, other_words, no_modes};
 
 /// What some words ask for.
 pub fn worked_words()
@@ -9,6 +9,7 @@ pub fn worked_words()
     ensures groups { groups }
     ensures numbers { numbers }
     ensures options { options }
+    ensures outboxes { outboxes }
     ensures other_words { other_words }
     ensures no_modes { no_modes }
 {}

@@ -11,4 +11,7 @@ pub enum Mode {
     Replay { group: u32 },
     /// Write the list of the quotas.
     Show,
+    /// Write the latest notice of each action that ran at a moment or later. The moment is in seconds since the beginning
+    /// of 1970, 0 to 4,102,444,799.
+    Outbox { since: u64 },
 }

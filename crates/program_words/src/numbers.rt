@@ -5,7 +5,7 @@ ghost use Rattle.std.specs.Char.{is_ascii_digit};
 ghost use Rattle.std.specs.List.{list_all};
 ghost use Rattle.std.specs.Str.Parse.{digits_value};
 ghost use Rattle.fsrm_model.specs.lines.Reading.{is_number};
-ghost use Rattle.program_words.specs.Numbers.{number_of};
+ghost use Rattle.program_words.specs.Numbers.{number_in};
 
 const MOST_DIGITS: usize = 20;
 
@@ -21,25 +21,37 @@ fn is_number(text: &str) -> bool
     0 < text.len() && text.len() <= MOST_DIGITS && are_digits(text.as_bytes())
 }
 
-// The number that digits write. None if it doesn't fit 32 bits.
-fn value_of(text: &str) -> Option<u32>
+// The number that digits write. None if it doesn't fit 64 bits.
+fn value_of(text: &str) -> Option<u64>
     requires { is_number text.now ≡ true }
     ensures fits { IfSome result (λ n. n ≡ digits_value 10 text.now) }
-    ensures too_large { IfNone result (2 ^ 32 ≤ digits_value 10 text.now) }
+    ensures too_large { IfNone result (2 ^ 64 ≤ digits_value 10 text.now) }
 {
-    match text.parse::<u32>() {
+    match text.parse::<u64>() {
         Ok(number) => Some(number),
         Err(_) => None,
     }
 }
 
-/// The number of 32 bits that a text writes in 1 to 20 digits.
-pub fn number_of(text: &str) -> Option<u32>
-    ensures { result ≡ number_of text.now }
+/// The number from `low` to `high` that a text writes in 1 to 20 digits.
+pub fn number_in(text: &str, low: u64, high: u64) -> Option<u64>
+    ensures { result ≡ number_in low high text.now }
 {
-    if is_number(text) {
-        value_of(text)
-    } else {
-        None
+    if !is_number(text) {
+        return None;
+    }
+    match value_of(text) {
+        Some(number) if low <= number && number <= high => Some(number),
+        _ => None,
+    }
+}
+
+/// The same of numbers of 32 bits.
+pub fn small_number_in(text: &str, low: u32, high: u32) -> Option<u32>
+    ensures { result ≡ number_in low high text.now }
+{
+    match number_in(text, u64::from(low), u64::from(high)) {
+        Some(number) => Some(number as u32),
+        None => None,
     }
 }

@@ -4,15 +4,16 @@ ghost use Rattle.std.specs.Prelude.{◌≡◌, map, IsErrOf, Some, None, IfOk, I
 ghost use Rattle.std.specs.String.{string_bytes};
 ghost use Rattle.clap.specs.Words.{found_of, rows_of};
 ghost use Rattle.fsrm_model.specs.store.Capacities.{is_cluster, is_capacity};
-ghost use Rattle.program_words.specs.Modes.{is_group, has_rest, size_of, init_mode, replay_mode, show_mode, named_mode, mode_of, mode, IsLegal};
+ghost use Rattle.program_words.specs.Modes.{is_group, has_rest, size_of, init_mode, replay_mode, show_mode, outbox_mode, plain_mode, named_mode, mode_of, mode, IsLegal};
 
 use crate::command::take_words;
 use crate::fault::WordsFault;
 use crate::modes::Mode;
-use crate::values::{gives, gives_size, number_or, rest, value};
+use crate::numbers::number_in;
+use crate::values::{gives, gives_none, gives_size, number_or, rest, value};
 use clap::ArgMatches;
 use fsrm_model::Capacity;
-use fsrm_model::limits::{MOST_NAMES, MOST_NODES};
+use fsrm_model::limits::{LATEST_MOMENT, MOST_NAMES, MOST_NODES};
 use std::alloc::Global;
 
 const FEWEST_NODES: u32 = 2;
@@ -88,12 +89,34 @@ fn replay_mode(matches: &ArgMatches<'_>) -> Option<Mode>
     fits.then_some(Mode::Replay { group })
 }
 
-fn show_mode(matches: &ArgMatches<'_>) -> Option<Mode>
-    ensures asked { result ≡ show_mode (rows_of (found_of matches.now)) }
+fn show_mode(words: &[&str]) -> Option<Mode>
+    ensures asked { result ≡ show_mode (map (λ s. s.now) words.now) }
     ensures legal { IfSome result IsLegal }
 {
-    let fits = !gives_size(matches) && !gives(matches, "group") && !has_rest(matches);
-    fits.then_some(Mode::Show)
+    words.is_empty().then_some(Mode::Show)
+}
+
+fn outbox_mode(words: &[&str]) -> Option<Mode>
+    ensures asked { result ≡ outbox_mode (map (λ s. s.now) words.now) }
+    ensures legal { IfSome result IsLegal }
+{
+    let [since] = words else {
+        return None;
+    };
+    let since = number_in(since, 0, LATEST_MOMENT)?;
+    Some(Mode::Outbox { since })
+}
+
+// A mode without options, by the words after its name.
+fn plain_mode(name: &str, words: &[&str]) -> Option<Mode>
+    ensures asked { result ≡ plain_mode name.now (map (λ s. s.now) words.now) }
+    ensures legal { IfSome result IsLegal }
+{
+    match name {
+        "show" => show_mode(words),
+        "outbox" => outbox_mode(words),
+        _ => None,
+    }
 }
 
 fn named_mode(name: &str, matches: &ArgMatches<'_>) -> Option<Mode>
@@ -103,7 +126,7 @@ fn named_mode(name: &str, matches: &ArgMatches<'_>) -> Option<Mode>
     match name {
         "init" => init_mode(matches),
         "replay" => replay_mode(matches),
-        "show" => show_mode(matches),
+        _ if gives_none(matches) => plain_mode(name, rest(matches)),
         _ => None,
     }
 }

@@ -4,16 +4,13 @@ use Rattle.fsrm_outside.proofs.OutsideLaws.{Laws}
 use Rattle.fsrm_session.specs.Members.{members}
 use Rattle.fsrm_session.proofs.Object.{laws_of}
 use Rattle.fsrm_modes.specs.declared.status.Status.TheVariants.{NoMemory, WriteFault}
+use Rattle.fsrm_modes.specs.Views.{view_cost, view_text}
 use Rattle.fsrm_modes.proofs.ReplayEnds.{fault_quiet}
-use Rattle.fsrm_modes.proofs.Showing.{done_not, fault_shows, front_shown, full_kept, full_not, list_shown, quiet_beside, write_not, write_rose}
-use Rattle.fsrm_modes.proofs.Spent.{fault_shown, list_few}
+use Rattle.fsrm_modes.proofs.Showing.{done_not, fault_shows, front_shown, full_kept, full_not, text_shown, quiet_beside, write_not, write_rose}
+use Rattle.fsrm_modes.proofs.Spent.{fault_shown, text_few}
 use Rattle.fsrm_modes.proofs.WholeRuns.{fault_run, fault_show, opened_kept, refused_tells}
 use Rattle.fsrm_modes.proofs.show.show.Given as given
 use Rattle.fsrm_modes.proofs.show.show.Goals as goal
-use Rattle.fsrm_model.specs.texts.Text.{list_lines}
-use Rattle.fsrm_model.specs.declared.command.Ask.TheVariants.{Quotas}
-use Rattle.fsrm_model.specs.declared.command.Outcome.TheVariants.{Listing}
-use Rattle.std.specs.Prelude.{None}
 
 abbrev object : (g : given.Over) → Members g.row.O.Denot
 object g = members g.O.Source g.O.Sink g.O.Disk
@@ -23,7 +20,7 @@ laws g = laws_of g.met.O.Sink g.met.O.Disk g.met.O.Outside
 
 pub returns-in-Err-clause-shows : goal.returns-in-Err-clause-shows
 returns-in-Err-clause-shows g c K R before b =
-    fault_shows c.in-Err.fault c.from.result K R (list_lines K R (Quotas None)) before c.args.outside.now c.recover.new.disk (laws g) c.from.ensures c.recover.ensures.by b
+    fault_shows c.in-Err.fault c.from.result K R (view_text c.args.view K R) before c.args.outside.now c.recover.new.disk (laws g) c.from.ensures c.recover.ensures.by b
 
 pub returns-in-Err-clause-store : goal.returns-in-Err-clause-store
 returns-in-Err-clause-store g c parts reads =
@@ -61,108 +58,77 @@ pub returns-in-Err-clause-disk_kept : goal.returns-in-Err-clause-disk_kept
 returns-in-Err-clause-disk_kept g c =
     (fault_run (object g) c.recover.result c.in-Err.fault c.from.result c.args.outside.now c.recover.new.disk (laws g) c.in-Err.is c.from.ensures c.recover.ensures.by c.recover.ensures.later c.recover.ensures.failed c.recover.ensures.counted).disk_kept
 
-pub returns-in-Ok-list_quotas-clause-shows : goal.returns-in-Ok-list_quotas-clause-shows
-returns-in-Ok-list_quotas-clause-shows g c K R before b =
+pub returns-in-Ok-write_store-clause-shows : goal.returns-in-Ok-write_store-clause-shows
+returns-in-Ok-write_store-clause-shows g c K R before b =
     let first = c.args.outside.now in
     let mid = c.recover.new.disk in
-    let last = c.list_quotas.new.sink in
+    let last = c.write_store.new.sink in
     let by = c.recover.ensures.by in
-    let wrote = c.list_quotas.ensures.device.by in
-    let source = g.met.O.Outside.disk_keeps_source first mid by in
-    let sink = g.met.O.Outside.disk_keeps_sink first mid by in
-    let then_source = g.met.O.Outside.write_keeps_source mid last wrote in
-    let then_disk = g.met.O.Outside.write_keeps_disk mid last wrote in
     let opened = c.in-Ok.opened in
-    list_shown K opened.engine.size R opened.engine.rows before first mid last (laws g) by b (c.in-Ok.ensures.state b.parts b.reads) c.in-Ok-list_quotas.ensures.whole
+    text_shown (view_text c.args.view) K opened.engine.size R opened.engine.rows before first mid last (laws g) by b (c.in-Ok.ensures.state b.parts b.reads) c.in-Ok-write_store.ensures.whole
 
-pub returns-in-Ok-list_quotas-clause-store : goal.returns-in-Ok-list_quotas-clause-store
-returns-in-Ok-list_quotas-clause-store g c parts reads =
+pub returns-in-Ok-write_store-clause-store : goal.returns-in-Ok-write_store-clause-store
+returns-in-Ok-write_store-clause-store g c parts reads =
     (c.in-Ok.opened.engine.size, c.in-Ok.opened.engine.rows, c.in-Ok.ensures.state parts reads)
 
-pub returns-in-Ok-list_quotas-clause-quiet : goal.returns-in-Ok-list_quotas-clause-quiet
-returns-in-Ok-list_quotas-clause-quiet g c parts reads none =
+pub returns-in-Ok-write_store-clause-quiet : goal.returns-in-Ok-write_store-clause-quiet
+returns-in-Ok-write_store-clause-quiet g c parts reads none =
     absurd (none c.in-Ok.opened.engine.size c.in-Ok.opened.engine.rows (c.in-Ok.ensures.state parts reads))
 
-pub returns-in-Ok-list_quotas-clause-reads : goal.returns-in-Ok-list_quotas-clause-reads
-returns-in-Ok-list_quotas-clause-reads g c =
-    let first = c.args.outside.now in
+pub returns-in-Ok-write_store-clause-reads : goal.returns-in-Ok-write_store-clause-reads
+returns-in-Ok-write_store-clause-reads g c =
     let mid = c.recover.new.disk in
-    let last = c.list_quotas.new.sink in
+    let last = c.write_store.new.sink in
     let by = c.recover.ensures.by in
-    let wrote = c.list_quotas.ensures.device.by in
-    let source = g.met.O.Outside.disk_keeps_source first mid by in
-    let sink = g.met.O.Outside.disk_keeps_sink first mid by in
-    let then_source = g.met.O.Outside.write_keeps_source mid last wrote in
+    let wrote = c.write_store.ensures.device.by in
     let then_disk = g.met.O.Outside.write_keeps_disk mid last wrote in
-    let opened = c.in-Ok.opened in
     then_disk.same_reads ∙ c.recover.ensures.reads
 
-pub returns-in-Ok-list_quotas-clause-left : goal.returns-in-Ok-list_quotas-clause-left
-returns-in-Ok-list_quotas-clause-left g c =
+pub returns-in-Ok-write_store-clause-left : goal.returns-in-Ok-write_store-clause-left
+returns-in-Ok-write_store-clause-left g c =
     let first = c.args.outside.now in
     let mid = c.recover.new.disk in
-    let last = c.list_quotas.new.sink in
+    let last = c.write_store.new.sink in
     let by = c.recover.ensures.by in
-    let wrote = c.list_quotas.ensures.device.by in
+    let wrote = c.write_store.ensures.device.by in
     let source = g.met.O.Outside.disk_keeps_source first mid by in
-    let sink = g.met.O.Outside.disk_keeps_sink first mid by in
     let then_source = g.met.O.Outside.write_keeps_source mid last wrote in
-    let then_disk = g.met.O.Outside.write_keeps_disk mid last wrote in
-    let opened = c.in-Ok.opened in
     then_source.same_left ∙ source.same_left
 
-pub returns-in-Ok-list_quotas-clause-crash : goal.returns-in-Ok-list_quotas-clause-crash
-returns-in-Ok-list_quotas-clause-crash g c =
+pub returns-in-Ok-write_store-clause-crash : goal.returns-in-Ok-write_store-clause-crash
+returns-in-Ok-write_store-clause-crash g c =
     let first = c.args.outside.now in
     let mid = c.recover.new.disk in
-    let last = c.list_quotas.new.sink in
+    let last = c.write_store.new.sink in
     let by = c.recover.ensures.by in
-    let wrote = c.list_quotas.ensures.device.by in
-    let source = g.met.O.Outside.disk_keeps_source first mid by in
-    let sink = g.met.O.Outside.disk_keeps_sink first mid by in
-    let then_source = g.met.O.Outside.write_keeps_source mid last wrote in
-    let then_disk = g.met.O.Outside.write_keeps_disk mid last wrote in
-    let opened = c.in-Ok.opened in
+    let wrote = c.write_store.ensures.device.by in
     quiet_beside first mid last (laws g) by c.recover.ensures.crash wrote
 
-pub returns-in-Ok-list_quotas-clause-reads_kept : goal.returns-in-Ok-list_quotas-clause-reads_kept
-returns-in-Ok-list_quotas-clause-reads_kept g c =
+pub returns-in-Ok-write_store-clause-reads_kept : goal.returns-in-Ok-write_store-clause-reads_kept
+returns-in-Ok-write_store-clause-reads_kept g c =
     let first = c.args.outside.now in
     let mid = c.recover.new.disk in
-    let last = c.list_quotas.new.sink in
+    let last = c.write_store.new.sink in
     let by = c.recover.ensures.by in
-    let wrote = c.list_quotas.ensures.device.by in
+    let wrote = c.write_store.ensures.device.by in
     let source = g.met.O.Outside.disk_keeps_source first mid by in
-    let sink = g.met.O.Outside.disk_keeps_sink first mid by in
     let then_source = g.met.O.Outside.write_keeps_source mid last wrote in
-    let then_disk = g.met.O.Outside.write_keeps_disk mid last wrote in
-    let opened = c.in-Ok.opened in
     then_source.same_faults ∙ source.same_faults
 
-pub returns-in-Ok-list_quotas-clause-writes_kept : goal.returns-in-Ok-list_quotas-clause-writes_kept
-returns-in-Ok-list_quotas-clause-writes_kept g c =
+pub returns-in-Ok-write_store-clause-writes_kept : goal.returns-in-Ok-write_store-clause-writes_kept
+returns-in-Ok-write_store-clause-writes_kept g c =
     let first = c.args.outside.now in
     let mid = c.recover.new.disk in
-    let last = c.list_quotas.new.sink in
     let by = c.recover.ensures.by in
-    let wrote = c.list_quotas.ensures.device.by in
-    let source = g.met.O.Outside.disk_keeps_source first mid by in
     let sink = g.met.O.Outside.disk_keeps_sink first mid by in
-    let then_source = g.met.O.Outside.write_keeps_source mid last wrote in
-    let then_disk = g.met.O.Outside.write_keeps_disk mid last wrote in
-    let opened = c.in-Ok.opened in
-    c.in-Ok-list_quotas.ensures.device.same ∙ sink.same_faults
+    c.in-Ok-write_store.ensures.device.same ∙ sink.same_faults
 
-pub returns-in-Ok-list_quotas-clause-disk_kept : goal.returns-in-Ok-list_quotas-clause-disk_kept
-returns-in-Ok-list_quotas-clause-disk_kept g c =
-    let first = c.args.outside.now in
+pub returns-in-Ok-write_store-clause-disk_kept : goal.returns-in-Ok-write_store-clause-disk_kept
+returns-in-Ok-write_store-clause-disk_kept g c =
     let mid = c.recover.new.disk in
-    let last = c.list_quotas.new.sink in
+    let last = c.write_store.new.sink in
     let by = c.recover.ensures.by in
-    let wrote = c.list_quotas.ensures.device.by in
-    let source = g.met.O.Outside.disk_keeps_source first mid by in
-    let sink = g.met.O.Outside.disk_keeps_sink first mid by in
-    let then_source = g.met.O.Outside.write_keeps_source mid last wrote in
+    let wrote = c.write_store.ensures.device.by in
     let then_disk = g.met.O.Outside.write_keeps_disk mid last wrote in
     let opened = c.in-Ok.opened in
     (then_disk.same_faults ∙ opened_kept c.recover.result opened _ _ c.in-Ok.is c.recover.ensures.counted)
@@ -171,15 +137,10 @@ pub returns-in-Err-WriteFault-clause-shows : goal.returns-in-Err-WriteFault-clau
 returns-in-Err-WriteFault-clause-shows g c K R before b =
     let first = c.args.outside.now in
     let mid = c.recover.new.disk in
-    let last = c.list_quotas.new.sink in
+    let last = c.write_store.new.sink in
     let by = c.recover.ensures.by in
-    let wrote = c.list_quotas.ensures.device.by in
-    let source = g.met.O.Outside.disk_keeps_source first mid by in
-    let sink = g.met.O.Outside.disk_keeps_sink first mid by in
-    let then_source = g.met.O.Outside.write_keeps_source mid last wrote in
-    let then_disk = g.met.O.Outside.write_keeps_disk mid last wrote in
     let opened = c.in-Ok.opened in
-    front_shown WriteFault K opened.engine.size R opened.engine.rows before first mid last (laws g) write_not.5 by b (c.in-Ok.ensures.state b.parts b.reads) c.in-Err-WriteFault.ensures.front
+    front_shown WriteFault (view_text c.args.view) K opened.engine.size R opened.engine.rows before first mid last (laws g) write_not.5 by b (c.in-Ok.ensures.state b.parts b.reads) c.in-Err-WriteFault.ensures.front
 
 pub returns-in-Err-WriteFault-clause-store : goal.returns-in-Err-WriteFault-clause-store
 returns-in-Err-WriteFault-clause-store g c parts reads =
@@ -191,99 +152,67 @@ returns-in-Err-WriteFault-clause-quiet g c parts reads none =
 
 pub returns-in-Err-WriteFault-clause-reads : goal.returns-in-Err-WriteFault-clause-reads
 returns-in-Err-WriteFault-clause-reads g c =
-    let first = c.args.outside.now in
     let mid = c.recover.new.disk in
-    let last = c.list_quotas.new.sink in
+    let last = c.write_store.new.sink in
     let by = c.recover.ensures.by in
-    let wrote = c.list_quotas.ensures.device.by in
-    let source = g.met.O.Outside.disk_keeps_source first mid by in
-    let sink = g.met.O.Outside.disk_keeps_sink first mid by in
-    let then_source = g.met.O.Outside.write_keeps_source mid last wrote in
+    let wrote = c.write_store.ensures.device.by in
     let then_disk = g.met.O.Outside.write_keeps_disk mid last wrote in
-    let opened = c.in-Ok.opened in
     then_disk.same_reads ∙ c.recover.ensures.reads
 
 pub returns-in-Err-WriteFault-clause-left : goal.returns-in-Err-WriteFault-clause-left
 returns-in-Err-WriteFault-clause-left g c =
     let first = c.args.outside.now in
     let mid = c.recover.new.disk in
-    let last = c.list_quotas.new.sink in
+    let last = c.write_store.new.sink in
     let by = c.recover.ensures.by in
-    let wrote = c.list_quotas.ensures.device.by in
+    let wrote = c.write_store.ensures.device.by in
     let source = g.met.O.Outside.disk_keeps_source first mid by in
-    let sink = g.met.O.Outside.disk_keeps_sink first mid by in
     let then_source = g.met.O.Outside.write_keeps_source mid last wrote in
-    let then_disk = g.met.O.Outside.write_keeps_disk mid last wrote in
-    let opened = c.in-Ok.opened in
     then_source.same_left ∙ source.same_left
 
 pub returns-in-Err-WriteFault-clause-crash : goal.returns-in-Err-WriteFault-clause-crash
 returns-in-Err-WriteFault-clause-crash g c =
     let first = c.args.outside.now in
     let mid = c.recover.new.disk in
-    let last = c.list_quotas.new.sink in
+    let last = c.write_store.new.sink in
     let by = c.recover.ensures.by in
-    let wrote = c.list_quotas.ensures.device.by in
-    let source = g.met.O.Outside.disk_keeps_source first mid by in
-    let sink = g.met.O.Outside.disk_keeps_sink first mid by in
-    let then_source = g.met.O.Outside.write_keeps_source mid last wrote in
-    let then_disk = g.met.O.Outside.write_keeps_disk mid last wrote in
-    let opened = c.in-Ok.opened in
+    let wrote = c.write_store.ensures.device.by in
     quiet_beside first mid last (laws g) by c.recover.ensures.crash wrote
 
 pub returns-in-Err-WriteFault-clause-reads_kept : goal.returns-in-Err-WriteFault-clause-reads_kept
 returns-in-Err-WriteFault-clause-reads_kept g c =
     let first = c.args.outside.now in
     let mid = c.recover.new.disk in
-    let last = c.list_quotas.new.sink in
+    let last = c.write_store.new.sink in
     let by = c.recover.ensures.by in
-    let wrote = c.list_quotas.ensures.device.by in
+    let wrote = c.write_store.ensures.device.by in
     let source = g.met.O.Outside.disk_keeps_source first mid by in
-    let sink = g.met.O.Outside.disk_keeps_sink first mid by in
     let then_source = g.met.O.Outside.write_keeps_source mid last wrote in
-    let then_disk = g.met.O.Outside.write_keeps_disk mid last wrote in
-    let opened = c.in-Ok.opened in
     then_source.same_faults ∙ source.same_faults
 
 pub returns-in-Err-WriteFault-clause-writes_kept : goal.returns-in-Err-WriteFault-clause-writes_kept
 returns-in-Err-WriteFault-clause-writes_kept g c =
     let first = c.args.outside.now in
     let mid = c.recover.new.disk in
-    let last = c.list_quotas.new.sink in
     let by = c.recover.ensures.by in
-    let wrote = c.list_quotas.ensures.device.by in
-    let source = g.met.O.Outside.disk_keeps_source first mid by in
     let sink = g.met.O.Outside.disk_keeps_sink first mid by in
-    let then_source = g.met.O.Outside.write_keeps_source mid last wrote in
-    let then_disk = g.met.O.Outside.write_keeps_disk mid last wrote in
-    let opened = c.in-Ok.opened in
-    omega (arith, c.list_quotas.ensures.device.later, sink.same_faults)
+    omega (arith, c.write_store.ensures.device.later, sink.same_faults)
 
 pub returns-in-Err-WriteFault-clause-write_fault : goal.returns-in-Err-WriteFault-clause-write_fault
 returns-in-Err-WriteFault-clause-write_fault g c is =
     let first = c.args.outside.now in
     let mid = c.recover.new.disk in
-    let last = c.list_quotas.new.sink in
     let by = c.recover.ensures.by in
-    let wrote = c.list_quotas.ensures.device.by in
-    let source = g.met.O.Outside.disk_keeps_source first mid by in
     let sink = g.met.O.Outside.disk_keeps_sink first mid by in
-    let then_source = g.met.O.Outside.write_keeps_source mid last wrote in
-    let then_disk = g.met.O.Outside.write_keeps_disk mid last wrote in
-    let opened = c.in-Ok.opened in
-    let rose = write_rose c.list_quotas.result c.in-Err-WriteFault.field-0 c.in-Err-WriteFault.is c.in-Err-WriteFault.field-0-is c.list_quotas.ensures.device.fault in
+    let rose = write_rose c.write_store.result c.in-Err-WriteFault.field-0 c.in-Err-WriteFault.is c.in-Err-WriteFault.field-0-is c.write_store.ensures.device.fault in
     omega (arith, rose, sink.same_faults)
 
 pub returns-in-Err-WriteFault-clause-disk_kept : goal.returns-in-Err-WriteFault-clause-disk_kept
 returns-in-Err-WriteFault-clause-disk_kept g c =
-    let first = c.args.outside.now in
     let mid = c.recover.new.disk in
-    let last = c.list_quotas.new.sink in
+    let last = c.write_store.new.sink in
     let by = c.recover.ensures.by in
-    let wrote = c.list_quotas.ensures.device.by in
-    let source = g.met.O.Outside.disk_keeps_source first mid by in
-    let sink = g.met.O.Outside.disk_keeps_sink first mid by in
-    let then_source = g.met.O.Outside.write_keeps_source mid last wrote in
+    let wrote = c.write_store.ensures.device.by in
     let then_disk = g.met.O.Outside.write_keeps_disk mid last wrote in
     let opened = c.in-Ok.opened in
     (then_disk.same_faults ∙ opened_kept c.recover.result opened _ _ c.in-Ok.is c.recover.ensures.counted)
@@ -292,15 +221,10 @@ pub returns-in-Err-NoMemory-clause-shows : goal.returns-in-Err-NoMemory-clause-s
 returns-in-Err-NoMemory-clause-shows g c K R before b =
     let first = c.args.outside.now in
     let mid = c.recover.new.disk in
-    let last = c.list_quotas.new.sink in
+    let last = c.write_store.new.sink in
     let by = c.recover.ensures.by in
-    let wrote = c.list_quotas.ensures.device.by in
-    let source = g.met.O.Outside.disk_keeps_source first mid by in
-    let sink = g.met.O.Outside.disk_keeps_sink first mid by in
-    let then_source = g.met.O.Outside.write_keeps_source mid last wrote in
-    let then_disk = g.met.O.Outside.write_keeps_disk mid last wrote in
     let opened = c.in-Ok.opened in
-    front_shown NoMemory K opened.engine.size R opened.engine.rows before first mid last (laws g) full_not.6 by b (c.in-Ok.ensures.state b.parts b.reads) c.in-Err-NoMemory.ensures.front
+    front_shown NoMemory (view_text c.args.view) K opened.engine.size R opened.engine.rows before first mid last (laws g) full_not.6 by b (c.in-Ok.ensures.state b.parts b.reads) c.in-Err-NoMemory.ensures.front
 
 pub returns-in-Err-NoMemory-clause-store : goal.returns-in-Err-NoMemory-clause-store
 returns-in-Err-NoMemory-clause-store g c parts reads =
@@ -312,85 +236,59 @@ returns-in-Err-NoMemory-clause-quiet g c parts reads none =
 
 pub returns-in-Err-NoMemory-clause-reads : goal.returns-in-Err-NoMemory-clause-reads
 returns-in-Err-NoMemory-clause-reads g c =
-    let first = c.args.outside.now in
     let mid = c.recover.new.disk in
-    let last = c.list_quotas.new.sink in
+    let last = c.write_store.new.sink in
     let by = c.recover.ensures.by in
-    let wrote = c.list_quotas.ensures.device.by in
-    let source = g.met.O.Outside.disk_keeps_source first mid by in
-    let sink = g.met.O.Outside.disk_keeps_sink first mid by in
-    let then_source = g.met.O.Outside.write_keeps_source mid last wrote in
+    let wrote = c.write_store.ensures.device.by in
     let then_disk = g.met.O.Outside.write_keeps_disk mid last wrote in
-    let opened = c.in-Ok.opened in
     then_disk.same_reads ∙ c.recover.ensures.reads
 
 pub returns-in-Err-NoMemory-clause-left : goal.returns-in-Err-NoMemory-clause-left
 returns-in-Err-NoMemory-clause-left g c =
     let first = c.args.outside.now in
     let mid = c.recover.new.disk in
-    let last = c.list_quotas.new.sink in
+    let last = c.write_store.new.sink in
     let by = c.recover.ensures.by in
-    let wrote = c.list_quotas.ensures.device.by in
+    let wrote = c.write_store.ensures.device.by in
     let source = g.met.O.Outside.disk_keeps_source first mid by in
-    let sink = g.met.O.Outside.disk_keeps_sink first mid by in
     let then_source = g.met.O.Outside.write_keeps_source mid last wrote in
-    let then_disk = g.met.O.Outside.write_keeps_disk mid last wrote in
-    let opened = c.in-Ok.opened in
     then_source.same_left ∙ source.same_left
 
 pub returns-in-Err-NoMemory-clause-crash : goal.returns-in-Err-NoMemory-clause-crash
 returns-in-Err-NoMemory-clause-crash g c =
     let first = c.args.outside.now in
     let mid = c.recover.new.disk in
-    let last = c.list_quotas.new.sink in
+    let last = c.write_store.new.sink in
     let by = c.recover.ensures.by in
-    let wrote = c.list_quotas.ensures.device.by in
-    let source = g.met.O.Outside.disk_keeps_source first mid by in
-    let sink = g.met.O.Outside.disk_keeps_sink first mid by in
-    let then_source = g.met.O.Outside.write_keeps_source mid last wrote in
-    let then_disk = g.met.O.Outside.write_keeps_disk mid last wrote in
-    let opened = c.in-Ok.opened in
+    let wrote = c.write_store.ensures.device.by in
     quiet_beside first mid last (laws g) by c.recover.ensures.crash wrote
 
 pub returns-in-Err-NoMemory-clause-reads_kept : goal.returns-in-Err-NoMemory-clause-reads_kept
 returns-in-Err-NoMemory-clause-reads_kept g c =
     let first = c.args.outside.now in
     let mid = c.recover.new.disk in
-    let last = c.list_quotas.new.sink in
+    let last = c.write_store.new.sink in
     let by = c.recover.ensures.by in
-    let wrote = c.list_quotas.ensures.device.by in
+    let wrote = c.write_store.ensures.device.by in
     let source = g.met.O.Outside.disk_keeps_source first mid by in
-    let sink = g.met.O.Outside.disk_keeps_sink first mid by in
     let then_source = g.met.O.Outside.write_keeps_source mid last wrote in
-    let then_disk = g.met.O.Outside.write_keeps_disk mid last wrote in
-    let opened = c.in-Ok.opened in
     then_source.same_faults ∙ source.same_faults
 
 pub returns-in-Err-NoMemory-clause-writes_kept : goal.returns-in-Err-NoMemory-clause-writes_kept
 returns-in-Err-NoMemory-clause-writes_kept g c =
     let first = c.args.outside.now in
     let mid = c.recover.new.disk in
-    let last = c.list_quotas.new.sink in
     let by = c.recover.ensures.by in
-    let wrote = c.list_quotas.ensures.device.by in
-    let source = g.met.O.Outside.disk_keeps_source first mid by in
     let sink = g.met.O.Outside.disk_keeps_sink first mid by in
-    let then_source = g.met.O.Outside.write_keeps_source mid last wrote in
-    let then_disk = g.met.O.Outside.write_keeps_disk mid last wrote in
-    let opened = c.in-Ok.opened in
-    let same = full_kept c.list_quotas.result c.in-Err-NoMemory.field-0 _ _ c.in-Err-NoMemory.is c.in-Err-NoMemory.field-0-is c.list_quotas.ensures.device.same in
+    let same = full_kept c.write_store.result c.in-Err-NoMemory.field-0 _ _ c.in-Err-NoMemory.is c.in-Err-NoMemory.field-0-is c.write_store.ensures.device.same in
     omega (arith, same, sink.same_faults)
 
 pub returns-in-Err-NoMemory-clause-disk_kept : goal.returns-in-Err-NoMemory-clause-disk_kept
 returns-in-Err-NoMemory-clause-disk_kept g c =
-    let first = c.args.outside.now in
     let mid = c.recover.new.disk in
-    let last = c.list_quotas.new.sink in
+    let last = c.write_store.new.sink in
     let by = c.recover.ensures.by in
-    let wrote = c.list_quotas.ensures.device.by in
-    let source = g.met.O.Outside.disk_keeps_source first mid by in
-    let sink = g.met.O.Outside.disk_keeps_sink first mid by in
-    let then_source = g.met.O.Outside.write_keeps_source mid last wrote in
+    let wrote = c.write_store.ensures.device.by in
     let then_disk = g.met.O.Outside.write_keeps_disk mid last wrote in
     let opened = c.in-Ok.opened in
     let same = (then_disk.same_faults ∙ opened_kept c.recover.result opened _ _ c.in-Ok.is c.recover.ensures.counted) in omega (arith, same)
@@ -401,14 +299,14 @@ returns-in-Err-clause-reads g c = c.recover.ensures.reads
 pub returns-in-Err-clause-crash : goal.returns-in-Err-clause-crash
 returns-in-Err-clause-crash g c = c.recover.ensures.crash
 
-pub returns-in-Ok-list_quotas-clause-only : goal.returns-in-Ok-list_quotas-clause-only
-returns-in-Ok-list_quotas-clause-only g c = (done_not.0, done_not.1, done_not.2, done_not.3)
+pub returns-in-Ok-write_store-clause-only : goal.returns-in-Ok-write_store-clause-only
+returns-in-Ok-write_store-clause-only g c = (done_not.0, done_not.1, done_not.2, done_not.3)
 
-pub returns-in-Ok-list_quotas-clause-write_fault : goal.returns-in-Ok-list_quotas-clause-write_fault
-returns-in-Ok-list_quotas-clause-write_fault g c is = absurd (done_not.4 is)
+pub returns-in-Ok-write_store-clause-write_fault : goal.returns-in-Ok-write_store-clause-write_fault
+returns-in-Ok-write_store-clause-write_fault g c is = absurd (done_not.4 is)
 
-pub returns-in-Ok-list_quotas-clause-disk_fault : goal.returns-in-Ok-list_quotas-clause-disk_fault
-returns-in-Ok-list_quotas-clause-disk_fault g c is = absurd (done_not.5 is)
+pub returns-in-Ok-write_store-clause-disk_fault : goal.returns-in-Ok-write_store-clause-disk_fault
+returns-in-Ok-write_store-clause-disk_fault g c is = absurd (done_not.5 is)
 
 pub returns-in-Err-WriteFault-clause-only : goal.returns-in-Err-WriteFault-clause-only
 returns-in-Err-WriteFault-clause-only g c = (write_not.0, write_not.1, write_not.2, write_not.3)
@@ -427,16 +325,16 @@ returns-in-Err-NoMemory-clause-disk_fault g c is = absurd (full_not.5 is)
 
 -- ---- what it takes
 pub returns-in-Err-clause-looks : goal.returns-in-Err-clause-looks
-returns-in-Err-clause-looks g c K R before b = fault_shown b.parts R (Listing (Quotas None)) c.args.steps.now c.recover.new.steps (c.recover.ensures.looks b.parts b.reads)
+returns-in-Err-clause-looks g c K R before b = fault_shown b.parts (view_cost c.args.view R) c.args.steps.now c.recover.new.steps (c.recover.ensures.looks b.parts b.reads)
 
-pub returns-in-Ok-list_quotas-clause-looks : goal.returns-in-Ok-list_quotas-clause-looks
-returns-in-Ok-list_quotas-clause-looks g c K R before b =
-    list_few b.parts K R c.in-Ok.opened (Listing (Quotas None)) c.args.steps.now c.recover.new.steps c.list_quotas.new.steps (c.recover.ensures.looks b.parts b.reads) b.holds (c.in-Ok.ensures.state b.parts b.reads) c.list_quotas.ensures.looks
+pub returns-in-Ok-write_store-clause-looks : goal.returns-in-Ok-write_store-clause-looks
+returns-in-Ok-write_store-clause-looks g c K R before b =
+    text_few b.parts K R c.in-Ok.opened (view_cost c.args.view) c.args.steps.now c.recover.new.steps c.write_store.new.steps (c.recover.ensures.looks b.parts b.reads) b.holds (c.in-Ok.ensures.state b.parts b.reads) c.write_store.ensures.looks
 
 pub returns-in-Err-WriteFault-clause-looks : goal.returns-in-Err-WriteFault-clause-looks
 returns-in-Err-WriteFault-clause-looks g c K R before b =
-    list_few b.parts K R c.in-Ok.opened (Listing (Quotas None)) c.args.steps.now c.recover.new.steps c.list_quotas.new.steps (c.recover.ensures.looks b.parts b.reads) b.holds (c.in-Ok.ensures.state b.parts b.reads) c.list_quotas.ensures.looks
+    text_few b.parts K R c.in-Ok.opened (view_cost c.args.view) c.args.steps.now c.recover.new.steps c.write_store.new.steps (c.recover.ensures.looks b.parts b.reads) b.holds (c.in-Ok.ensures.state b.parts b.reads) c.write_store.ensures.looks
 
 pub returns-in-Err-NoMemory-clause-looks : goal.returns-in-Err-NoMemory-clause-looks
 returns-in-Err-NoMemory-clause-looks g c K R before b =
-    list_few b.parts K R c.in-Ok.opened (Listing (Quotas None)) c.args.steps.now c.recover.new.steps c.list_quotas.new.steps (c.recover.ensures.looks b.parts b.reads) b.holds (c.in-Ok.ensures.state b.parts b.reads) c.list_quotas.ensures.looks
+    text_few b.parts K R c.in-Ok.opened (view_cost c.args.view) c.args.steps.now c.recover.new.steps c.write_store.new.steps (c.recover.ensures.looks b.parts b.reads) b.holds (c.in-Ok.ensures.state b.parts b.reads) c.write_store.ensures.looks

@@ -21,7 +21,11 @@ returns-clause-numbers c = (refl, refl, refl, refl, refl, refl, refl)
 
 pub returns-clause-options : goal.returns-clause-options
 unfolding clap_on_literals
-returns-clause-options c = (refl, refl, refl, refl, refl, refl)
+returns-clause-options c = (refl, refl, refl, refl, refl, refl, refl, refl)
+
+pub returns-clause-outboxes : goal.returns-clause-outboxes
+unfolding clap_on_literals
+returns-clause-outboxes c = (refl, refl, refl, refl, refl, refl, refl, refl, refl, refl)
 
 pub returns-clause-other_words : goal.returns-clause-other_words
 unfolding clap_on_literals
