@@ -7,8 +7,8 @@ use record_codec::{CodecFault, EntryRef, decode, encode};
 use std::alloc::Global;
 use std::test::Fail;
 
-// An entry of each kind, after its moment, which is 100.
-const KINDS: [&[u8]; 26] = [
+// An entry of each kind, after its moment, which is 100; of a new job one more, with nothing that may be left out.
+const KINDS: [&[u8]; 30] = [
     b"\x01\x04\0D:\\x\x01\0\0\0\0\0\0\0",
     b"\x02\x04\0D:\\x\x05\0\0\0\0\0\0\0\x01\0\0\0\0\0\0\0",
     b"\x03\x04\0D:\\x\x05\0\0\0\0\0\0\0",
@@ -34,6 +34,10 @@ const KINDS: [&[u8]; 26] = [
     b"\x34\x04\0D:\\x",
     b"\x3c\x04\0D:\\x\x01\0\x01\0g",
     b"\x3d\x04\0D:\\x",
+    b"\x46\x01\0j\x02\x04\0D:\\x\x01\x05\0daily\x01\x01\0\0\0\0\0\0\0\x01\x03\0*.a\x01\0\x04\0\0\0\0\0\0\x01\x07\0\0\0\0\0\0\0\x01\x50\0\0\0\0\0\0\0\x0a\0\0\0\0\0\0\0",
+    b"\x46\x01\0j\x08\x03\0D:\\\0\0\0\0\0\0\xe8\x03\0\0\0\0\0\0",
+    b"\x47\x01\0j",
+    b"\x48\x01\0j",
     b"\x63\x03\0\0\0\0\0\0\0",
 ];
 
@@ -97,7 +101,7 @@ fn kinds_both_ways(rt: HostRuntime) -> Result<(), Fail> {
 }
 
 // Bytes after the moment, and the place that is told.
-const DAMAGED: [(&[u8], u64); 11] = [
+const DAMAGED: [(&[u8], u64); 15] = [
     (b"", 8),
     (b"\x07", 8),
     (b"\x01\x04\0D:\\x\x01\0\0\0\0\0\0", 15),
@@ -109,6 +113,13 @@ const DAMAGED: [(&[u8], u64); 11] = [
     (b"\x0a\x04\0D:\\x\0\0\x01\0\0\0\0\0", 18),
     (b"\x28\x01\0g\0\0\0\0", 12),
     (b"\x33\x04\0D:\\x\x02\0\0\0\0", 15),
+    (b"\x46\x01\0j\x09\x03\0D:\\", 12),
+    (b"\x46\x01\0j\x08\x03\0D:\\\x02", 18),
+    (
+        b"\x46\x01\0j\x08\x03\0D:\\\0\0\0\0\x01\x95\x8e\0\0\0\0\0\0",
+        23,
+    ),
+    (b"\x46\x01\0j\x08\x03\0D:\\\0\0\0\0\0\0\0\0\0\0\0\0\0\0", 24),
 ];
 
 #[test]

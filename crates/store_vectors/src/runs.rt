@@ -87,6 +87,7 @@ fn other_words_ask_for_nothing(rt: HostRuntime) -> Result<(), Fail> {
     let mut outside = MemoryOutside::new(rt.alloc(), SCRIPT, [].as_slice())?;
     assert!(rt; ask(&rt, &mut outside, "Init")? == Status::Usage);
     assert!(rt; ask(&rt, &mut outside, "")? == Status::Usage);
+    assert!(rt; ask(&rt, &mut outside, "outbox")? == Status::Usage);
     assert!(rt; replay(&rt, &mut outside, "0")? == Status::Usage);
     assert!(rt; replay(&rt, &mut outside, "1025")? == Status::Usage);
     assert!(rt; outside.calls() == 0);
@@ -125,6 +126,41 @@ fn pieces_and_groups_make_no_difference(rt: HostRuntime) -> Result<(), Fail> {
         assert!(rt; is_shown(&rt, 1, group)?);
         assert!(rt; is_shown(&rt, 7, group)?);
     }
+    Ok(())
+}
+
+// The quota's mail runs as the file is made.
+const ACTING: &[u8] =
+    b"1000000000 dirquota quota add /Path:D:\\ /Limit:2mb /Type:soft \"/Add-Notification:85,m,60,[Quota Path] has [Quota Used] of [quota limit mb] MB [x]\"
+1000000000 create D:\\a 1800000 1
+";
+
+const NOTICE: &[u8] =
+    b"  2001-09-09 01:46:40 m quota 85 0 D:\\\n    D:\\ has 1802240 of 2 MB [x]\n";
+
+// Whether the outbox of a store since a moment is this text, and writes nothing to the disk.
+fn has_outbox(
+    rt: &HostRuntime,
+    store: &MemoryOutside,
+    since: &str,
+    text: &[u8],
+) -> Result<bool, Fail> {
+    let mut outside = over(rt, store, &[], [].as_slice())?;
+    let mode = String::from_str(rt.alloc(), "outbox")?;
+    let words = [mode, String::from_str(rt.alloc(), since)?];
+    let status = run_words(rt, words.as_slice(), &mut outside);
+    let is_same = outside.part(Part::Zero) == store.part(Part::Zero)
+        && outside.part(Part::One) == store.part(Part::One);
+    Ok(status == Status::Done && outside.shown() == text && is_same)
+}
+
+#[test]
+fn an_outbox_has_the_actions_that_ran_since(rt: HostRuntime) -> Result<(), Fail> {
+    let mut outside = over(&rt, &new_store(&rt)?, ACTING, [].as_slice())?;
+    assert!(rt; has_outbox(&rt, &outside, "0", &[])?);
+    assert!(rt; replay(&rt, &mut outside, "1")? == Status::Done);
+    assert!(rt; has_outbox(&rt, &outside, "0", NOTICE)?);
+    assert!(rt; has_outbox(&rt, &outside, "1000000001", &[])?);
     Ok(())
 }
 
