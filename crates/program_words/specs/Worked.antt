@@ -1,10 +1,10 @@
 -- Some words, and what they ask for.
-use Rattle.std.specs.Prelude.{◌≡◌, ◌==◌, ℕ, Bool, [], Some, None, codes}
+use Rattle.std.specs.Prelude.{◌≡◌, ◌==◌, ℕ, Bool, [], ◌∷◌, Some, None, codes}
 use Rattle.std.specs.List.{slice_split}
 use Rattle.clap.specs.Words.{Text}
 use Rattle.program_words.specs.Modes.{mode}
 use Rattle.program_words.specs.declared.modes.Mode.{Mode}
-use Rattle.program_words.specs.declared.modes.Mode.TheVariants.{Init, Replay, Show, Outbox}
+use Rattle.program_words.specs.declared.modes.Mode.TheVariants.{Init, Replay, Show, Outbox, Work, Expire, Tick}
 
 abbrev pub is_blank : ℕ → Bool
 is_blank byte = byte == 32
@@ -78,6 +78,43 @@ outboxes =
     × asks_nothing (codes "outbox -8")
     × asks_nothing (codes "outbox -- -8")
     × asks_nothing (codes "outbox 000000000000000000008")
+
+-- `work` takes a seed of 64 bits, and how many commands
+abbrev pub works : Type 0
+works =
+    asks (codes "work 7 40") (Work 7 40)
+    × asks (codes "work 18446744073709551615 1000000") (Work 18446744073709551615 1000000)
+    × asks (codes "work 7 -- 40") (Work 7 40)
+    × asks_nothing (codes "work 7")
+    × asks_nothing (codes "work 7 40 1")
+    × asks_nothing (codes "work 7 0")
+    × asks_nothing (codes "work 7 1000001")
+    × asks_nothing (codes "work 18446744073709551616 1")
+    × asks_nothing (codes "work 7 --group 8 40")
+
+-- `expire` takes two paths, days, a pattern and a moment. What begins with `-` and has more is an option
+abbrev pub expires : Type 0
+expires =
+    asks (codes "expire D:\\a D:\\old\\b 36500 *.tmp 1000864000") (Expire (codes "a" ∷ []) (codes "old" ∷ codes "b" ∷ []) 36500 (codes "*.tmp") 1000864000)
+    × asks (codes "expire d:\\ D:\\a\\ 0 - 0") (Expire [] (codes "a" ∷ []) 0 (codes "-") 0)
+    × asks (codes "expire -- D:\\a D:\\b 1 -x 1") (Expire (codes "a" ∷ []) (codes "b" ∷ []) 1 (codes "-x") 1)
+    × asks_nothing (codes "expire D:\\a D:\\b 1 -x 1")
+    × asks_nothing (codes "expire D:a D:\\b 1 * 1")
+    × asks_nothing (codes "expire D:\\a E:\\b 1 * 1")
+    × asks_nothing (codes "expire D:\\a D:\\b 36501 * 1")
+    × asks_nothing (codes "expire D:\\a D:\\b 1 a|b 1")
+    × asks_nothing (codes "expire D:\\a D:\\b 1 * 4102444800")
+    × asks_nothing (codes "expire D:\\a D:\\b 1 *")
+
+-- `tick` takes a moment that has a date
+abbrev pub ticks : Type 0
+ticks =
+    asks (codes "tick 1000000800") (Tick 1000000800)
+    × asks (codes "tick -- 4102444799") (Tick 4102444799)
+    × asks_nothing (codes "tick")
+    × asks_nothing (codes "tick 4102444800")
+    × asks_nothing (codes "tick 1 1")
+    × asks_nothing (codes "tick --group 8 1")
 
 -- no word follows another mode but `--`
 abbrev pub other_words : Type 0

@@ -20,7 +20,13 @@ const MODES: &str = "\
 init          Make a new store in the current folder
 replay        Read a script from standard input, and write the replies to standard output
 show          List the quotas
-outbox SINCE  List the latest notice of each action that ran at SINCE or later; SINCE is a moment";
+outbox SINCE  List the latest notice of each action that ran at SINCE or later; SINCE is a moment
+work SEED COUNT
+              Run COUNT commands that are made from SEED, and write a line that sums up the replies; COUNT is 1 to 1000000
+expire FROM TO DAYS PATTERN MOMENT
+              Move the files of the folder FROM that match PATTERN, and weren't changed for DAYS days at MOMENT,
+              into the folder TO; DAYS is 0 to 36500
+tick MOMENT   Run the report jobs that are due at MOMENT";
 
 const STORE: &str = "\
 A store is two files of the current folder, fsrm.store.0 and fsrm.store.1. Each line of a script is a

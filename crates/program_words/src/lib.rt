@@ -9,6 +9,7 @@ mod fault;
 pub mod laws;
 mod modes;
 mod numbers;
+mod plain;
 mod reading;
 mod values;
 

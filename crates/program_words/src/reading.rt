@@ -4,16 +4,16 @@ ghost use Rattle.std.specs.Prelude.{◌≡◌, map, IsErrOf, Some, None, IfOk, I
 ghost use Rattle.std.specs.String.{string_bytes};
 ghost use Rattle.clap.specs.Words.{found_of, rows_of};
 ghost use Rattle.fsrm_model.specs.store.Capacities.{is_cluster, is_capacity};
-ghost use Rattle.program_words.specs.Modes.{is_group, has_rest, size_of, init_mode, replay_mode, show_mode, outbox_mode, plain_mode, named_mode, mode_of, mode, IsLegal};
+ghost use Rattle.program_words.specs.Modes.{is_group, has_rest, size_of, init_mode, replay_mode, named_mode, mode_of, mode, Answers, IsLegal};
 
 use crate::command::take_words;
 use crate::fault::WordsFault;
 use crate::modes::Mode;
-use crate::numbers::number_in;
+use crate::plain::{answer, plain_mode};
 use crate::values::{gives, gives_none, gives_size, number_or, rest, value};
 use clap::ArgMatches;
 use fsrm_model::Capacity;
-use fsrm_model::limits::{LATEST_MOMENT, MOST_NAMES, MOST_NODES};
+use fsrm_model::limits::{MOST_NAMES, MOST_NODES};
 use std::alloc::Global;
 
 const FEWEST_NODES: u32 = 2;
@@ -89,53 +89,26 @@ fn replay_mode(matches: &ArgMatches<'_>) -> Option<Mode>
     fits.then_some(Mode::Replay { group })
 }
 
-fn show_mode(words: &[&str]) -> Option<Mode>
-    ensures asked { result ≡ show_mode (map (λ s. s.now) words.now) }
-    ensures legal { IfSome result IsLegal }
-{
-    words.is_empty().then_some(Mode::Show)
-}
-
-fn outbox_mode(words: &[&str]) -> Option<Mode>
-    ensures asked { result ≡ outbox_mode (map (λ s. s.now) words.now) }
-    ensures legal { IfSome result IsLegal }
-{
-    let [since] = words else {
-        return None;
-    };
-    let since = number_in(since, 0, LATEST_MOMENT)?;
-    Some(Mode::Outbox { since })
-}
-
-// A mode without options, by the words after its name.
-fn plain_mode(name: &str, words: &[&str]) -> Option<Mode>
-    ensures asked { result ≡ plain_mode name.now (map (λ s. s.now) words.now) }
-    ensures legal { IfSome result IsLegal }
+fn named_mode(alloc: Global, name: &str, matches: &ArgMatches<'_>) -> Result<Mode, WordsFault>
+    ensures asked { Answers result (named_mode name.now (rows_of (found_of matches.now))) }
+    ensures legal { IfOk result IsLegal }
 {
     match name {
-        "show" => show_mode(words),
-        "outbox" => outbox_mode(words),
-        _ => None,
+        "init" => answer(init_mode(matches)),
+        "replay" => answer(replay_mode(matches)),
+        _ if gives_none(matches) => plain_mode(alloc, name, rest(matches)),
+        _ => Err(WordsFault::Usage),
     }
 }
 
-fn named_mode(name: &str, matches: &ArgMatches<'_>) -> Option<Mode>
-    ensures asked { result ≡ named_mode name.now (rows_of (found_of matches.now)) }
-    ensures legal { IfSome result IsLegal }
+fn mode_of(alloc: Global, matches: &ArgMatches<'_>) -> Result<Mode, WordsFault>
+    ensures asked { Answers result (mode_of (rows_of (found_of matches.now))) }
+    ensures legal { IfOk result IsLegal }
 {
-    match name {
-        "init" => init_mode(matches),
-        "replay" => replay_mode(matches),
-        _ if gives_none(matches) => plain_mode(name, rest(matches)),
-        _ => None,
+    match value(matches, "MODE") {
+        Some(name) => named_mode(alloc, name, matches),
+        None => Err(WordsFault::Usage),
     }
-}
-
-fn mode_of(matches: &ArgMatches<'_>) -> Option<Mode>
-    ensures asked { result ≡ mode_of (rows_of (found_of matches.now)) }
-    ensures legal { IfSome result IsLegal }
-{
-    named_mode(value(matches, "MODE")?, matches)
 }
 
 /// What the words after the program's name ask for. `Usage` exactly if they ask for nothing: if clap doesn't take them as
@@ -147,5 +120,5 @@ pub fn read_words(alloc: Global, words: &[String]) -> Result<Mode, WordsFault>
     ensures legal { IfOk result IsLegal }
 {
     let matches = take_words(alloc, words)?;
-    mode_of(&matches).ok_or(WordsFault::Usage)
+    mode_of(alloc, &matches)
 }
