@@ -11,7 +11,7 @@ use Rattle.fsrm_model.specs.declared.row.NodeRow.{NodeRow}
 use Rattle.fsrm_model.specs.nodes.Tree.{number, node_of, is_under}
 use Rattle.fsrm_model.specs.store.Valid.{IsVolume}
 use Rattle.storage_reports.specs.Files.{ahead, always, is_asked, is_file, report_files, rows_from}
-use Rattle.storage_reports.specs.Walk.{AreBelow, is_marked}
+use Rattle.storage_reports.specs.Marks.{AreBelow, is_marked}
 use Rattle.storage_reports.proofs.ByNumber.{filter_same, filter_twice, from_absent, from_there, from_none}
 
 module _ (K : Capacity) (nodes : List NodeRow) (v : IsVolume K nodes) where

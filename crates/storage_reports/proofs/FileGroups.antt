@@ -32,7 +32,7 @@ sums-push K xs x = λ i. record {
     count = omega (arith, length-append xs (x ∷ []))
 
 -- a part comes to no more than the whole
-part_sum : (f : NodeRow → ℕ) (p : NodeRow → Bool) (xs : List NodeRow) → sum_by f (filter p xs) ≤ sum_by f xs
+pub part_sum : (f : NodeRow → ℕ) (p : NodeRow → Bool) (xs : List NodeRow) → sum_by f (filter p xs) ≤ sum_by f xs
 part_sum f p [] = omega arith
 part_sum f p (x ∷ xs) = at (p x) (part_sum f p xs)
   where

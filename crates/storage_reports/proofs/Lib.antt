@@ -1,9 +1,7 @@
 pub mod Sorting
 pub mod Grouping
-pub mod WalkLaws
 pub mod ByNumber
 pub mod MarkLaws
-pub mod Shown
 pub mod CourseLaws
 pub mod TableLaws
 pub mod FileGroups
@@ -13,3 +11,6 @@ pub mod SeenKeys
 pub mod Weak
 pub mod QuotaLaws
 pub mod FilterParts
+pub mod TwinLaws
+pub mod LeftLaws
+pub mod Mixes

@@ -8,10 +8,13 @@ use Rattle.fsrm_base.specs.Keyed.{has_row, is_ascending}
 use Rattle.fsrm_base.proofs.EditedRows.{sum_by-filter}
 use Rattle.fsrm_base.proofs.Look.{has_found, found_key, found_has}
 use Rattle.fsrm_base.proofs.Sums.{sum_by_only, sum_by-ones}
-use Rattle.fsrm_base.proofs.TestLaws.{is_or_not, clash, eq_is, eq_same, eq_turned}
+use Rattle.fsrm_base.proofs.TestLaws.{is_or_not, clash, eq_above, eq_is, eq_same, eq_turned, lt_is}
+use Rattle.fsrm_model.specs.declared.row.Capacity.{Capacity}
 use Rattle.fsrm_model.specs.declared.row.NodeRow.{NodeRow}
+use Rattle.fsrm_model.specs.store.Valid.{IsVolume}
 use Rattle.fsrm_model.specs.nodes.Tree.{number, is_under, under}
-use Rattle.storage_reports.specs.Walk.{AreThere, left, one, total, bit, only, Takes, Marks, AreBelow, is_marked}
+use Rattle.storage_reports.specs.Marks.{bit, only, Marks, AreBelow, is_marked}
+use Rattle.tree_walk.specs.Walk.{AreThere, left, one, total, Takes}
 
 nothing : (b c : Bool) → c ≡ false → cond b (bit c) 0 ≡ 0
 nothing true c h = ap bit h
@@ -103,3 +106,41 @@ none_marked count n = elim (cases_lt n count) [
   | inl l ↦ get_or-replicate count n false false l
   | inr l ↦ get_or_past (replicate count false) n false (omega (arith, length-replicate {A = Bool}))
 ]
+
+-- ---- all nodes, marked one after the other
+pub record AreMarked (nodes : List NodeRow) (marks : List Bool) (k : ℕ) : Type 0 where
+  pub low : (n : ℕ) → n < k → is_marked marks n ≡ has_row number n nodes
+  pub high : (n : ℕ) → k ≤ n → is_marked marks n ≡ false
+
+pub marked_none : (nodes : List NodeRow) (marks : List Bool) → ((n : ℕ) → is_marked marks n ≡ false) → AreMarked nodes marks 0
+marked_none nodes marks none = record { low = λ n l. absurd (omega arith); high = λ n l. none n }
+
+pub marked_next : (nodes : List NodeRow) (marks : List Bool) (k : ℕ) (there : Bool) → k < length marks → there ≡ has_row number k nodes → AreMarked nodes marks k → AreMarked nodes (set marks k there) (k + 1)
+marked_next nodes marks k there within is m = record {
+  low = λ n l. elim (is_or_not (n == k)) [
+    | inl e ↦ ap (is_marked (set marks k there)) (eq_is _ _ e) ∙ (get_or-set_same marks k there false within ∙ (is ∙ ap (λ j. has_row number j nodes) (sym (eq_is _ _ e))))
+    | inr f ↦ other n f ∙ m.low n (less n f l)
+  ];
+  high = λ n l. other n (eq_above n k (omega arith)) ∙ m.high n (omega arith);
+}
+  where
+    other : (n : ℕ) → (n == k) ≡ false → is_marked (set marks k there) n ≡ is_marked marks n
+    other n f = get_or-set_other marks k n there false (λ e. clash _ (ap (λ j. j == k) e ∙ eq_same k) f)
+
+    less : (n : ℕ) → (n == k) ≡ false → n < k + 1 → n < k
+    less n f l = elim (cases_lt n k) [
+      | inl t ↦ t
+      | inr g ↦ let same : n ≡ k = omega (arith, g, l) in absurd (clash _ (ap (λ m. m == k) same ∙ eq_same k) f)
+    ]
+
+pub all_below : (K : Capacity) (nodes : List NodeRow) (v : IsVolume K nodes) (marks : List Bool) (k : ℕ) → K.nodes ≤ k → AreMarked nodes marks k → AreBelow nodes 0 marks
+all_below K nodes v marks k past m = record {
+  there = λ n h. elim (cases_lt n k) [
+    | inl l ↦ sym (m.low n l) ∙ h
+    | inr g ↦ absurd (clash _ h (m.high n g))
+  ];
+  each = λ n h.
+      let f = has_found number n nodes h in
+      let low : n < K.nodes = lt_is _ _ (v.below n f.row f.is) in
+      m.low n (omega (arith, low, past)) ∙ (h ∙ sym (v.rooted n h));
+}

@@ -1,16 +1,14 @@
 -- The files of a report.
-use Rattle.std.specs.Prelude.{◌≡◌, ℕ, ◌+◌, ◌^◌, ◌<◌, ◌≤◌, ◌==◌, ◌&&◌, nat_le, not, Bool, true, List, [], ◌∷◌, Option, filter, length, sum_by, if◌then◌else◌}
-use Rattle.std.specs.Option.{option_map_or}
+use Rattle.std.specs.Prelude.{◌≡◌, ℕ, ◌+◌, ◌^◌, ◌<◌, ◌≤◌, ◌==◌, ◌&&◌, nat_le, Bool, true, List, Option, filter, length, sum_by, if◌then◌else◌}
 use Rattle.fsrm_model.specs.declared.row.Capacity.{Capacity}
 use Rattle.fsrm_model.specs.declared.row.Filter.{Filter}
 use Rattle.fsrm_model.specs.declared.row.NodeRow.{NodeRow}
-use Rattle.fsrm_model.specs.values.Patterns.{pattern_matches}
 use Rattle.fsrm_model.specs.values.Space.{space}
-use Rattle.fsrm_model.specs.nodes.Tree.{number, under}
+use Rattle.fsrm_model.specs.nodes.Tree.{number}
 use Rattle.fsrm_model.specs.store.Valid.{IsVolume}
 use Rattle.fsrm_base.specs.Keyed.{has_row}
 use Rattle.volume_tree.specs.Volume.{Volume}
-use Rattle.storage_reports.specs.Walk.{is_marked}
+use Rattle.storage_reports.specs.Marks.{is_marked}
 pub use Rattle.fsrm_model.specs.declared.report.Sums.{Sums}
 pub use Rattle.fsrm_model.specs.reports.Files.{first_number, is_asked, report_files, sums}
 pub use Rattle.fsrm_model.specs.reports.Filters.{passes_owner, passes_pattern, passes_pattern_of}
@@ -37,10 +35,12 @@ always node = true
 abbrev pub ahead : ℕ → List NodeRow → ℕ
 ahead n nodes = length (rows_from always n nodes)
 
--- the files that are still to be lent, and how many looks that may take
+-- the files that are still to be lent, and how many looks that may take; and the same of all files of the course
 pub record Course : Type 0 where
   pub files : List NodeRow
   pub looks : ℕ
+  pub all : List NodeRow
+  pub whole : ℕ
 
 -- What is kept between two files: marks of numbers that are there, for all of a volume, of which some were passed, and
 -- the pattern that is asked for.

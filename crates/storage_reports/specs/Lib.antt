@@ -3,4 +3,4 @@ pub mod Files
 pub mod Quotas
 pub mod Doubles
 pub mod Worked
-pub mod Walk
+pub mod Marks

@@ -1,5 +1,5 @@
 -- The order of a report's rows.
-use Rattle.std.specs.Prelude.{ℕ, ◌==◌, ◌&&◌, ◌||◌, Bool, nat_lt, if◌then◌else◌}
+use Rattle.std.specs.Prelude.{ℕ, ◌==◌, ◌&&◌, ◌||◌, Bool, nat_lt}
 use Rattle.fsrm_model.specs.declared.report.ReportRow.{ReportRow}
 use Rattle.storage_reports.specs.declared.ranked.Ranked.{Ranked}
 pub use Rattle.fsrm_model.specs.reports.Reports.{comes_before}

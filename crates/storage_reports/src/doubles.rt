@@ -1,6 +1,6 @@
 //! Files that may be one: of one name in any spelling, one length and one moment of change.
 
-ghost use Rattle.std.specs.Prelude.{◌≡◌, ◌+◌, ◌*◌, ◌≤◌, true, bytes_eq, unwrap_or, length, IfOk, map, filter, take};
+ghost use Rattle.std.specs.Prelude.{◌≡◌, ◌+◌, ◌*◌, ◌<◌, ◌≤◌, true, bytes_eq, unwrap_or, length, IfOk, map, filter, take, OnOk};
 ghost use Rattle.std.specs.Map.{lookup};
 ghost use Rattle.std.specs.Option.{option_map_or};
 ghost use Rattle.fsrm_base.specs.Order.{in_order};
@@ -8,7 +8,7 @@ ghost use Rattle.fsrm_model.specs.nodes.Tree.{is_folder};
 ghost use Rattle.fsrm_model.specs.store.Valid.{IsVolume};
 ghost use Rattle.fsrm_model.specs.values.Patterns.{is_pattern};
 ghost use Rattle.node_table.specs.Views.{seen};
-ghost use Rattle.storage_reports.specs.Doubles.{file_value};
+ghost use Rattle.storage_reports.specs.Doubles.{AreLeft, Shares, file_value};
 ghost use Rattle.storage_reports.specs.Files.{no_files, report_files, sums};
 ghost use Rattle.fsrm_model.specs.reports.Groups.{groups, with_value};
 ghost use Rattle.storage_reports.specs.Ranks.{stands_before, twice_ranked};
@@ -19,11 +19,16 @@ use crate::groups::{Grouping, grouped};
 use crate::lists::file_row;
 use crate::ranked::{Ranked, keep_first, table_of};
 use crate::sums::sums_of;
+use crate::twins::{slot_of, take_slot};
 use crate::type_text::folded_name;
 use fsrm_model::{Ledger, NoMemory, ReportAsk, ReportRow, Steps, Sums, Table};
 use indexmap::IndexMap;
+use number_set::NumberSet;
 use std::alloc::Global;
 use volume_tree::{NodeView, Tree};
+
+// How many slots there are for each node: of so many, one file in 17 takes that of another one by chance.
+const SLOTS: u32 = 16;
 
 /// What files have in common that may be one.
 #[derive(PartialEq, Eq, Hash, Drop)]
@@ -117,6 +122,51 @@ fn doubled<L: Ledger>(
     Ok(rows)
 }
 
+// The slots that two or more files share, of so many.
+fn shared_slots<L: Ledger>(
+    alloc: Global,
+    files: &mut Files<'_>,
+    slots: u32,
+    steps: &mut Steps<L>,
+) -> Result<NumberSet, NoMemory>
+    requires { 0 < slots }
+    ensures shares { IfOk result (λ shared. Shares files.old.files shared) }
+    ensures bound { IfOk result (λ shared. shared.bound ≡ slots) }
+    ensures looks { steps.new ≤ steps.old + files.old.looks }
+    ensures all { files.new.all ≡ files.old.all }
+    ensures whole { files.new.whole ≡ files.old.whole }
+{
+    let mut taken = NumberSet::reserve(alloc, slots)?;
+    let mut shared = NumberSet::reserve(alloc, slots)?;
+    while let Some(node) = files.next(steps) {
+        let slot = slot_of(alloc, &node, slots)?;
+        take_slot(slot, &mut taken, &mut shared);
+    }
+    Ok(shared)
+}
+
+// Leaves out most files that have no double, and begins again.
+fn leave_single<L: Ledger>(
+    alloc: Global,
+    tree: &Tree,
+    files: &mut Files<'_>,
+    steps: &mut Steps<L>,
+) -> Result<(), NoMemory>
+    requires begun { files.old.files ≡ files.old.all }
+    requires looks { files.old.looks ≡ files.old.whole }
+    ensures left { OnOk result (AreLeft files.old.all files.new.all) }
+    ensures begun { OnOk result (files.new.files ≡ files.new.all) }
+    ensures room { OnOk result (files.new.looks ≡ files.old.whole) }
+    ensures whole { OnOk result (files.new.whole ≡ files.old.whole) }
+    ensures looks { steps.new ≤ steps.old + 2 * files.old.whole }
+{
+    let slots = tree.count().saturating_mul(SLOTS).max(1);
+    let shared = shared_slots(alloc, files, slots, steps)?;
+    files.leave_single(alloc, &shared, steps)?;
+    files.again();
+    Ok(())
+}
+
 /// The first files below a folder that have a double: the longest before the others, and each with its doubles. It takes
 /// no more than 8 looks for each node of the volume.
 pub fn list_doubles<L: Ledger>(
@@ -133,8 +183,9 @@ pub fn list_doubles<L: Ledger>(
 {
     let max = ask.filter.max;
     let mut files = Files::below(alloc, tree, ask.scope, &ask.filter, steps)?;
+    leave_single(alloc, tree, &mut files, steps)?;
     let known = grouped::<ByFile, L>(alloc, tree, &mut files, steps)?;
-    let mut again = Files::below(alloc, tree, ask.scope, &ask.filter, steps)?;
-    let rows = doubled(alloc, tree, &mut again, &known, max, steps)?;
+    files.again();
+    let rows = doubled(alloc, tree, &mut files, &known, max, steps)?;
     table_of(alloc, rows, true, max)
 }

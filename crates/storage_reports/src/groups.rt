@@ -60,6 +60,8 @@ pub fn grouped<G: Grouping, L: Ledger>(
     requires fits { Fits tree.now.size files.old.files }
     ensures groups { IfOk result (λ made. map (with_value G.value) made.entries ≡ groups G.is_same G.value_in (sums tree.now.size) files.old.files) }
     ensures looks { steps.new ≤ steps.old + files.old.looks }
+    ensures all { files.new.all ≡ files.old.all }
+    ensures whole { files.new.whole ≡ files.old.whole }
 {
     let mut groups = IndexMap::new(alloc);
     while let Some(node) = files.next(steps) {

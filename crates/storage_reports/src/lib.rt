@@ -3,7 +3,8 @@
 //!
 //! `report` marks the nodes at and below the scope in one walk, and then goes up the numbers, so that files come in the
 //! order in which ties stand. No more rows are kept than twice those that are asked for. Owners, types and files that may
-//! be one are counted in maps, in the order in which they are first seen.
+//! be one are counted in maps, in the order in which they are first seen; files that can't have a double are left out
+//! before, by slots that each file takes.
 #![tactic(auto)]
 
 pub mod ask;
@@ -20,8 +21,8 @@ pub mod quotas;
 pub mod ranked;
 pub mod sums;
 pub mod tables;
+pub mod twins;
 pub mod type_text;
 pub mod types;
-pub mod walk;
 
 pub use tables::report;

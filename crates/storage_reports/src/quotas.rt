@@ -6,7 +6,7 @@ ghost use Rattle.fsrm_model.specs.values.Limits.{least_limit};
 ghost use Rattle.storage_reports.specs.Quotas.{IsQuota, listed_percent};
 ghost use Rattle.storage_reports.specs.Ranks.{ranked, stands_before};
 ghost use Rattle.fsrm_model.specs.reports.Reports.{is_much_used, percent_used, quota_row, quota_rows};
-ghost use Rattle.storage_reports.specs.Walk.{AreBelow};
+ghost use Rattle.storage_reports.specs.Marks.{AreBelow};
 
 use crate::ranked::{Ranked, keep_first, table_of};
 use fsrm_engine::Engine;

@@ -1,6 +1,7 @@
 use Rattle.std.proofs.Common.{◌≡◌, ◌+◌, ◌*◌, ◌≤◌, length}
 use Rattle.fsrm_model.specs.nodes.Tree.{under}
-use Rattle.storage_reports.specs.Walk.{AreThere, Marks, left}
+use Rattle.storage_reports.specs.Marks.{Marks}
+use Rattle.tree_walk.specs.Walk.{AreThere, left}
 use Rattle.storage_reports.proofs.below.marked_below.Given as goal
 
 abbrev pub invariant-loop-walk : goal.invariant-loop-walk

@@ -18,6 +18,8 @@ loop-node-init g c = (
     front = refl;
     entries = ap (map (with_value {V = Sums} g.G.Grouping.value)) c.new-groups.ensures.empty;
     looks = omega arith;
+    all = refl;
+    whole = refl;
   },
 )
 
@@ -90,5 +92,7 @@ loop-node-preserved g c =
         front = append_assoc xs (x ∷ []) c.next.new.self.files ∙ (ap (λ (rows : List NodeRow). xs ++ rows) (sym c.in-Some.ensures.lent) ∙ i.front);
         entries = grown G.is_same law.equivalence G.value_in K seen_old xs i.entries x seen_new with_key;
         looks = omega (arith, i.looks, c.in-Some.ensures.looks);
+        all = c.next.ensures.all ∙ i.all;
+        whole = c.next.ensures.whole ∙ i.whole;
       },
     )

@@ -9,6 +9,8 @@ invariant-loop-node g l = (xs : List NodeRow) × record {
   front : xs ++ l.files.files ≡ l.fn.files.files;
   entries : map (with_value g.G.Grouping.value) l.groups.entries ≡ groups g.G.Grouping.is_same g.G.Grouping.value_in (sums l.tree.size) xs;
   looks : l.steps + l.files.looks ≤ l.fn.steps + l.fn.files.looks;
+  all : l.files.all ≡ l.fn.files.all;
+  whole : l.files.whole ≡ l.fn.files.whole;
 }
 
 abbrev pub decreases-loop-node : goal.decreases-loop-node

@@ -21,6 +21,14 @@ returns-clause-files g c =
     c.all.ensures.files
     ∙ all_files c.args.tree.now.size c.args.tree.now.nodes c.requires.volume c.in_ok-marks.marks.items c.args.asked.now c.args.scope c.in_ok-marks.ensures.marks
 
+pub returns-clause-all : goal.returns-clause-all
+returns-clause-all g c =
+    c.all.ensures.all
+    ∙ all_files c.args.tree.now.size c.args.tree.now.nodes c.requires.volume c.in_ok-marks.marks.items c.args.asked.now c.args.scope c.in_ok-marks.ensures.marks
+
+pub returns-clause-whole : goal.returns-clause-whole
+returns-clause-whole g c = c.all.ensures.whole ∙ all_ahead c.args.tree.now.size c.args.tree.now.nodes c.requires.volume
+
 pub returns-clause-left : goal.returns-clause-left
 returns-clause-left g c = c.all.ensures.looks ∙ all_ahead c.args.tree.now.size c.args.tree.now.nodes c.requires.volume
 

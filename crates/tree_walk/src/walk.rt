@@ -6,7 +6,7 @@ ghost use Rattle.fsrm_model.specs.values.Limits.{longest_file};
 ghost use Rattle.fsrm_model.specs.nodes.Tree.{number as key};
 ghost use Rattle.fsrm_model.specs.store.Valid.{IsVolume};
 ghost use Rattle.node_table.specs.Views.{seen};
-ghost use Rattle.storage_reports.specs.Walk.{AreThere, Takes, inside, inside_if, left};
+ghost use Rattle.tree_walk.specs.Walk.{AreOutside, AreThere, Takes, TakesOutside, inside, inside_if, left};
 
 use fsrm_model::{Ledger, NoMemory, Steps};
 use std::alloc::Global;
@@ -103,6 +103,33 @@ impl Walk {
             return Ok(None);
         };
         let view = tree.node(number, steps);
+        put_inside(tree, &view, &mut self.finger, &mut self.waiting, steps)?;
+        Ok(Some(view))
+    }
+
+    /// The next node, as `next` lends it, but of the closed folder nothing comes but the folder itself. No node waits that
+    /// is below it.
+    pub fn next_outside<'t, L: Ledger>(
+        &mut self,
+        tree: &'t Tree,
+        closed: u32,
+        steps: &mut Steps<L>,
+    ) -> Result<Option<NodeView<'t>>, NoMemory>
+        requires volume { IsVolume tree.now.size tree.now.nodes }
+        requires there { AreThere tree.now.nodes self.old }
+        requires outside { AreOutside tree.now.nodes closed self.old }
+        ensures taken { IfOk result (λ next. IfSome next (λ view. TakesOutside tree.now.nodes closed self.old self.new (seen view))) }
+        ensures none { IfOk result (λ next. IfNone next (self.old ≡ [])) }
+        ensures looks { OnOk result (steps.new + (length self.old + 3 * left tree.now.nodes self.new) ≤ steps.old + (length self.new + 3 * left tree.now.nodes self.old)) }
+        ensures most { steps.new + length self.old ≤ steps.old + 3 * left tree.now.nodes self.old }
+    {
+        let Some(number) = self.waiting.pop() else {
+            return Ok(None);
+        };
+        let view = tree.node(number, steps);
+        if number == closed {
+            return Ok(Some(view));
+        }
         put_inside(tree, &view, &mut self.finger, &mut self.waiting, steps)?;
         Ok(Some(view))
     }

@@ -1,5 +1,5 @@
 -- A walk: the nodes at and below some nodes, each once.
-use Rattle.std.specs.Prelude.{◌≡◌, ℕ, ◌+◌, ◌==◌, Bool, true, false, List, Some, sum_by, map, [], slice_index_or, if◌then◌else◌}
+use Rattle.std.specs.Prelude.{◌≡◌, ◌⊎◌, ℕ, ◌+◌, ◌<◌, Bool, true, false, List, Some, sum_by, map, [], if◌then◌else◌}
 use Rattle.std.specs.List.{AllByRecursion}
 use Rattle.fsrm_base.specs.Keyed.{has_row}
 use Rattle.fsrm_model.specs.declared.row.NodeRow.{NodeRow}
@@ -33,22 +33,24 @@ pub record Takes (nodes : List NodeRow) (old new : List ℕ) (row : NodeRow) : T
   pub there : AreThere nodes new
   pub each : (measure : NodeRow → ℕ) → total measure nodes old ≡ measure row + total measure nodes new
 
--- whether a number is marked, and 1 for the node of a number
-abbrev pub is_marked : List Bool → ℕ → Bool
-is_marked marks n = slice_index_or marks n false
+-- ---- a walk that doesn't enter one folder
+-- a node is this folder, or isn't below it
+abbrev pub IsOutside : List NodeRow → ℕ → ℕ → Type 0
+IsOutside nodes closed n = (n ≡ closed) ⊎ (is_under nodes closed n ≡ false)
 
-abbrev pub bit : Bool → ℕ
-bit b = if b then 1 else 0
+abbrev pub AreOutside : List NodeRow → ℕ → List ℕ → Type 0
+AreOutside nodes closed numbers = AllByRecursion (λ n. IsOutside nodes closed n) numbers
 
-abbrev pub only : ℕ → NodeRow → ℕ
-only n node = bit (node.number == n)
+-- a measure by which what is at and below a folder comes to nothing
+pub record Ignores (nodes : List NodeRow) (closed : ℕ) (measure : NodeRow → ℕ) : Type 0 where
+  pub nothing : (node : NodeRow) → is_under nodes closed node.number ≡ true → measure node ≡ 0
 
--- the nodes at and below a folder are those that are marked, or at or below a node that waits
-pub record Marks (nodes : List NodeRow) (scope : ℕ) (waiting : List ℕ) (marks : List Bool) : Type 0 where
-  pub there : (n : ℕ) → is_marked marks n ≡ true → has_row number n nodes ≡ true
-  pub each : (n : ℕ) → has_row number n nodes ≡ true → bit (is_marked marks n) + total (only n) nodes waiting ≡ bit (is_under nodes scope n)
-
--- the marked numbers are those of the nodes at and below a folder
-pub record AreBelow (nodes : List NodeRow) (scope : ℕ) (marks : List Bool) : Type 0 where
-  pub there : (n : ℕ) → is_marked marks n ≡ true → has_row number n nodes ≡ true
-  pub each : (n : ℕ) → has_row number n nodes ≡ true → is_marked marks n ≡ is_under nodes scope n
+-- A node was taken out of what waits, and what is below the closed folder with it, if it is this one: by every measure that ignores
+-- that folder what waits became less by that node.
+pub record TakesOutside (nodes : List NodeRow) (closed : ℕ) (old new : List ℕ) (row : NodeRow) : Type 0 where
+  pub found : node_of nodes row.number ≡ Some row
+  pub there : AreThere nodes new
+  pub apart : IsOutside nodes closed row.number
+  pub outside : AreOutside nodes closed new
+  pub each : (measure : NodeRow → ℕ) → Ignores nodes closed measure → total measure nodes old ≡ measure row + total measure nodes new
+  pub fewer : left nodes new < left nodes old

@@ -15,7 +15,7 @@ use Rattle.fsrm_model.specs.nodes.Tree.{number, node_of, is_folder, is_child, ch
 use Rattle.fsrm_model.specs.store.Valid.{IsVolume}
 use Rattle.fsrm_model.proofs.nodes.Keeps.{tree_of, found_folder}
 use Rattle.fsrm_model.proofs.nodes.UsageLaws.{under_sum, no_child_of_file}
-use Rattle.storage_reports.specs.Walk.{AreThere, inside, inside_if, total, one, left, Takes}
+use Rattle.tree_walk.specs.Walk.{AreThere, inside, inside_if, total, one, left, Takes}
 
 -- a sum stays where items are put in order
 put_sum : {X : Type 0} (before : X → X → Bool) (f : X → ℕ) (x : X) (ys : List X) → sum_by f (put before x ys) ≡ f x + sum_by f ys
@@ -42,7 +42,7 @@ put_all before P x (y ∷ ys) h each = at (before x y) (put_all before P x ys h 
     at true rest = (h, each)
     at false rest = (each.0, rest)
 
-all_from : {X : Type 0} (before : X → X → Bool) (P : X → Type 0) (sorted xs : List X) → AllByRecursion P sorted → AllByRecursion P xs → AllByRecursion P (fold (λ ys x. put before x ys) sorted xs)
+pub all_from : {X : Type 0} (before : X → X → Bool) (P : X → Type 0) (sorted xs : List X) → AllByRecursion P sorted → AllByRecursion P xs → AllByRecursion P (fold (λ ys x. put before x ys) sorted xs)
 all_from before P sorted [] h each = h
 all_from before P sorted (x ∷ xs) h each = all_from before P (put before x sorted) xs (put_all before P x sorted each.0 h) each.1
 
@@ -54,7 +54,7 @@ all_kept P p (x ∷ xs) each = at (p x) (all_kept P p xs each.1)
     at true rest = (each.0, rest)
     at false rest = rest
 
-abbrev before : NodeRow → NodeRow → Bool
+abbrev pub before : NodeRow → NodeRow → Bool
 before a b = name_before a.name b.name
 
 rows_there : (nodes rows : List NodeRow) → AllByRecursion (λ row. has_row number row.number nodes ≡ true) rows → AreThere nodes (map number rows)
@@ -70,7 +70,7 @@ there-append : (nodes : List NodeRow) (xs ys : List ℕ) → AreThere nodes xs �
 there-append nodes [] ys h g = g
 there-append nodes (x ∷ xs) ys h g = (h.0, there-append nodes xs ys h.1 g)
 
-there-front : (nodes : List NodeRow) (xs ys : List ℕ) → AreThere nodes (xs ++ ys) → AreThere nodes xs
+pub there-front : (nodes : List NodeRow) (xs ys : List ℕ) → AreThere nodes (xs ++ ys) → AreThere nodes xs
 there-front nodes [] ys h = tt
 there-front nodes (x ∷ xs) ys h = (h.0, there-front nodes xs ys h.1)
 
@@ -85,7 +85,7 @@ inside_total K nodes measure n row v h =
     omega (arith, under_sum nodes (tree_of K nodes v) v.ascending measure n row h, sum_in_order before f (children nodes n), sum_by-map (λ m. sum_by measure (under nodes m)) number (children_in_order nodes n))
 
 -- at least the node itself
-own : (K : Capacity) (nodes : List NodeRow) (n : ℕ) → IsVolume K nodes → has_row number n nodes ≡ true → 1 ≤ sum_by one (under nodes n)
+pub own : (K : Capacity) (nodes : List NodeRow) (n : ℕ) → IsVolume K nodes → has_row number n nodes ≡ true → 1 ≤ sum_by one (under nodes n)
 own K nodes n v h =
     let f = has_found number n nodes h in
     omega (arith, inside_total K nodes one n f.row v f.is)
@@ -95,7 +95,7 @@ few K nodes [] v h = omega arith
 few K nodes (n ∷ numbers) v h =
     omega (arith, own K nodes n v h.0, few K nodes numbers v h.1, sum_by-cons (λ m. sum_by one (under nodes m)) n numbers)
 
-nothing_inside : (K : Capacity) (nodes : List NodeRow) (n : ℕ) → IsVolume K nodes → (b : Bool) → is_folder nodes n ≡ b → inside_if b nodes n ≡ inside nodes n
+pub nothing_inside : (K : Capacity) (nodes : List NodeRow) (n : ℕ) → IsVolume K nodes → (b : Bool) → is_folder nodes n ≡ b → inside_if b nodes n ≡ inside nodes n
 nothing_inside K nodes n v true h = refl
 nothing_inside K nodes n v false h = sym (ap (λ (rows : List NodeRow). map number (in_order before rows)) (no_child_of_file K nodes n v h))
 

@@ -1,10 +1,10 @@
 use Rattle.std.proofs.Common.{◌≡◌, ℕ, ◌++◌, ◌∷◌, [], length, Some, sym, ◌∙◌, ap, arith}
 use Rattle.fsrm_model.specs.nodes.Tree.{node_of}
 use Rattle.node_table.specs.Views.{seen}
-use Rattle.storage_reports.specs.Walk.{inside}
-use Rattle.storage_reports.proofs.Shown.{seen_found, seen_number}
-use Rattle.storage_reports.proofs.WalkLaws.{takes, takes_looks, stopped_looks}
-use Rattle.storage_reports.proofs.walk.Walk.next.Goals as goal
+use Rattle.tree_walk.specs.Walk.{inside}
+use Rattle.tree_walk.proofs.Shown.{seen_found, seen_number}
+use Rattle.tree_walk.proofs.WalkLaws.{takes, takes_looks, stopped_looks}
+use Rattle.tree_walk.proofs.walk.Walk.next.Goals as goal
 
 pub returns-in_err-put_inside-clause-most : goal.returns-in_err-put_inside-clause-most
 returns-in_err-put_inside-clause-most g c =

@@ -3,7 +3,7 @@ use Rattle.std.specs.Str.{IsUtf8}
 use Rattle.std.specs.Str.Iter.{chars_rest}
 use Rattle.std.specs.String.{string_bytes}
 use Rattle.fsrm_model.specs.reports.Reports.{folded_text}
-use Rattle.storage_reports.proofs.type_text.folded_name.Given as goal
+use Rattle.storage_reports.proofs.type_text.folded_characters.Given as goal
 
 abbrev pub invariant-loop-character : goal.invariant-loop-character
 invariant-loop-character l = record {
