@@ -9,9 +9,11 @@ mod due;
 pub mod laws;
 mod occasions;
 mod reading;
+mod runs;
 mod schedule;
 
 pub use due::is_due_job;
 pub use occasions::next_after;
 pub use reading::read_schedule;
+pub use runs::{due_runs, unread_names};
 pub use schedule::{BadSchedule, Schedule};
