@@ -1,0 +1,4 @@
+pub mod FindLaws
+pub mod PathLaws
+pub mod MoveLaws
+pub mod StayLaws
