@@ -14,7 +14,6 @@ use Rattle.fsrm_model.specs.declared.row.Rows.{Rows}
 use Rattle.fsrm_model.specs.lines.Script.{replied_to}
 use Rattle.fsrm_model.specs.meaning.Named.{IsNamed}
 use Rattle.fsrm_model.specs.store.Lasting.{lasting}
-use Rattle.fsrm_model.specs.texts.ActText.{act_lines}
 use Rattle.fsrm_model.specs.texts.Text.{is_bare}
 use Rattle.fsrm_outside.specs.Members.{Members}
 use Rattle.fsrm_outside.specs.Moments.{EachImage}
@@ -24,7 +23,7 @@ use Rattle.fsrm_store.specs.Standing.{rows_kept, now_kept, HoldsEither, KeepsJou
 use Rattle.fsrm_store.proofs.Standings.{leaves_as, stands_kept}
 use Rattle.fsrm_store.specs.declared.fault.StoreFault.{StoreFault}
 use Rattle.fsrm_store.specs.declared.fault.StoreFault.TheVariants.{DiskFault as Failed, NoMemory as OutOfMemory}
-use Rattle.fsrm_session.specs.Turns.{Turn, command_turn, rows_after, text_of, told}
+use Rattle.fsrm_session.specs.Turns.{Turn, rows_after, text_of, told}
 use Rattle.fsrm_session.specs.Underway.{Calms, Enters, Goes, Safe, Stops, StopsTelling, Tells, Underway}
 use Rattle.reply_text.specs.declared.replies.Line.{Line}
 use Rattle.fsrm_session.specs.declared.session.Session.{Session}
@@ -69,7 +68,7 @@ bare_named R NamesFull bare = tt
 bare_named R TableFull bare = tt
 bare_named R TextsFull bare = tt
 
--- ---- the store takes a command
+-- ---- the store takes a command, in a turn that leaves the rows after it
 -- what its call says of what a crash leaves, and of how it stands
 pub record Leaves {O : Type 0} (M : Members O) (c : Command) (was : Session) (old new : O) : Type 0 where
   pub leaves : (kept : Rows) → Standing M.reads M.disk_clock M.images kept was.store old
@@ -78,17 +77,17 @@ pub record Leaves {O : Type 0} (M : Members O) (c : Command) (was : Session) (ol
 pub record StandsThen {O : Type 0} (M : Members O) (was next : Session) (old new : O) : Type 0 where
   pub stands : (kept : Rows) → Standing M.reads M.disk_clock M.images kept was.store old → Standing M.reads M.disk_clock M.images (now_kept kept next.store) next.store new
 
--- the rows after its turn
-turn_rows : {O : Type 0} {M : Members O} {was : Session} {old : O} (K : Capacity) (R : Rows) (turns : List Turn) (words before : List ℕ) (number : ℕ) (c : Command) → Underway M K R turns words before was old
-    → (step was.store.engine.size was.store.engine.rows c).rows ≡ rows_after R (turns ++ command_turn was.store.engine.size number c ∷ [])
-turn_rows {was = was} K R turns words before number c u =
-    ap (λ (T : Rows). (step was.store.engine.size T c).rows) u.rows ∙ sym (rows_one R turns (command_turn was.store.engine.size number c))
+-- the rows after a turn that leaves what it leaves
+turn_rows : {O : Type 0} {M : Members O} {was : Session} {old : O} (K : Capacity) (R : Rows) (turns : List Turn) (words before : List ℕ) (turn : Turn) (c : Command) → ((T : Rows) → turn.after T ≡ (step was.store.engine.size T c).rows) → Underway M K R turns words before was old
+    → (step was.store.engine.size was.store.engine.rows c).rows ≡ rows_after R (turns ++ turn ∷ [])
+turn_rows {was = was} K R turns words before turn c leaves u =
+    ap (λ (T : Rows). (step was.store.engine.size T c).rows) u.rows ∙ sym (leaves (rows_after R turns)) ∙ sym (rows_one R turns turn)
 
-command_safe : {O : Type 0} {M : Members O} {was : Session} {old : O} (K : Capacity) (R : Rows) (turns : List Turn) (words before : List ℕ) (number : ℕ) (c : Command) (new : O) → Laws M → Underway M K R turns words before was old → M.by_disk old new
-    → Leaves M c was old new → Safe M K R (turns ++ command_turn was.store.engine.size number c ∷ []) before old new
-command_safe {was = was} K R turns words before number c new laws u ran l =
-    disk_part K R turns (command_turn was.store.engine.size number c ∷ []) words before laws new u ran
-    (leaves_as (lasting (rows_after R u.first)) u.size (turn_rows K R turns words before number c u) (l.leaves (lasting (rows_after R u.first)) u.standing))
+command_safe : {O : Type 0} {M : Members O} {was : Session} {old : O} (K : Capacity) (R : Rows) (turns : List Turn) (words before : List ℕ) (turn : Turn) (c : Command) (new : O) → Laws M → ((T : Rows) → turn.after T ≡ (step was.store.engine.size T c).rows) → Underway M K R turns words before was old → M.by_disk old new
+    → Leaves M c was old new → Safe M K R (turns ++ turn ∷ []) before old new
+command_safe {was = was} K R turns words before turn c new laws leaves u ran l =
+    disk_part K R turns (turn ∷ []) words before laws new u ran
+    (leaves_as (lasting (rows_after R u.first)) u.size (turn_rows K R turns words before turn c leaves u) (l.leaves (lasting (rows_after R u.first)) u.standing))
 
 -- what was kept is kept, or all of the rows is
 kept_or_all : (held : ℕ) (kept R : Rows) → (rows_kept held kept R ≡ kept) ⊎ (rows_kept held kept R ≡ lasting R)
@@ -132,25 +131,24 @@ entered {M = M} K R turns words before turn was next old new laws u ran kept siz
     })
     (kept_or_all next.store.journal.held (lasting (rows_after R u.first)) next.store.engine.rows)
 
-pub store_enters : {O : Type 0} {M : Members O} (number : ℕ) (c : Command) (was next : Session) (old new : O) → Laws M → M.by_disk old new → next.kept.items ≡ was.kept.items
+pub store_enters : {O : Type 0} {M : Members O} (turn : Turn) (c : Command) (was next : Session) (old new : O) → Laws M → M.by_disk old new → ((R : Rows) → turn.after R ≡ (step was.store.engine.size R c).rows) → next.kept.items ≡ was.kept.items
     → next.store.engine.size ≡ was.store.engine.size → next.store.engine.rows ≡ (step was.store.engine.size was.store.engine.rows c).rows → Leaves M c was old new → StandsThen M was next old new
-    → Enters M (command_turn was.store.engine.size number c) was next old new
-store_enters number c was next old new laws ran kept size rows l s = record {
+    → Enters M turn was next old new
+store_enters turn c was next old new laws ran leaves kept size rows l s = record {
   enters = λ K R turns words before u. (
-    entered K R turns words before (command_turn was.store.engine.size number c) was next old new laws u ran kept (size ∙ u.size) (rows ∙ turn_rows K R turns words before number c u) s,
-    command_safe K R turns words before number c new laws u ran l,
+    entered K R turns words before turn was next old new laws u ran kept (size ∙ u.size) (rows ∙ turn_rows K R turns words before turn c leaves u) s,
+    command_safe K R turns words before turn c new laws leaves u ran l,
   );
 }
 
 -- a call of the disk failed
-pub store_stops : {O : Type 0} {M : Members O} (number : ℕ) (c : Command) (was next : Session) (old new : O) → Laws M → M.by_disk old new → Leaves M c was old new
-    → Stops M DiskFault (command_turn was.store.engine.size number c ∷ []) was next old new
-store_stops {M = M} number c was next old new laws ran l = record {
-  stops = λ K R turns before u.
-      let turn = command_turn was.store.engine.size number c in (
-        stopped_more M DiskFault K R turns (turn ∷ []) before next new (shows_still K R turns (text_of R turns) before new (laws.disk_keeps_sink old new ran).same_shown u),
-        command_safe K R turns (text_of R turns) before number c new laws u ran l,
-      );
+pub store_stops : {O : Type 0} {M : Members O} (turn : Turn) (c : Command) (was next : Session) (old new : O) → Laws M → M.by_disk old new → ((R : Rows) → turn.after R ≡ (step was.store.engine.size R c).rows) → Leaves M c was old new
+    → Stops M DiskFault (turn ∷ []) was next old new
+store_stops {M = M} turn c was next old new laws ran leaves l = record {
+  stops = λ K R turns before u. (
+    stopped_more M DiskFault K R turns (turn ∷ []) before next new (shows_still K R turns (text_of R turns) before new (laws.disk_keeps_sink old new ran).same_shown u),
+    command_safe K R turns (text_of R turns) before turn c new laws leaves u ran l,
+  );
 }
 
 -- there was no memory, and nothing changed

@@ -7,3 +7,5 @@ pub mod Spending
 pub mod Texts
 pub mod Told
 pub mod Waiting
+pub mod Said
+pub mod Unshown

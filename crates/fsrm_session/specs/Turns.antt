@@ -67,6 +67,10 @@ refused_turn K number refusal = record {
   bytes = λ R. entries_bytes (read_entries K R (Some (Err refusal)));
 }
 
+-- a text that tells of no command
+abbrev pub said_turn : List ℕ → Turn
+said_turn text = record { said = λ R. text; after = λ R. R; looks = λ R. 0; bytes = λ R. 0 }
+
 -- a line, whatever it asks for
 abbrev pub line_turn : Capacity → ℕ → List ℕ → Turn
 line_turn K number line = record {
@@ -84,6 +88,10 @@ line_turns K number (line ∷ lines) = line_turn K number line ∷ line_turns K 
 -- a script
 abbrev pub script_turns : Capacity → List ℕ → List Turn
 script_turns K script = line_turns K 1 (lines script)
+
+-- the same turn, of which nothing is shown
+abbrev pub unshown : Turn → Turn
+unshown turn = record turn { said = λ R. [] }
 
 -- ---- turns that do the same
 -- they show the same, leave the same rows, and take as much, whatever rows they come to

@@ -8,8 +8,10 @@
 #![tactic(auto)]
 
 mod batch;
+mod counting;
 mod kept;
 mod replies;
+mod saying;
 mod session;
 mod showing;
 mod stop;

@@ -1,6 +1,6 @@
 //! The reply to a command, and its acts, written to a sink.
 
-ghost use Rattle.std.specs.Prelude.{◌≡◌, ◌≤◌, ◌+◌, [], false, OnOk};
+ghost use Rattle.std.specs.Prelude.{◌≡◌, ◌≤◌, ◌+◌, ◌-◌, ◌^◌, [], false, length, min, IfOk, OnOk};
 ghost use Rattle.fsrm_model.specs.commands.Cost.{acts_cost, print_cost, report_cost};
 ghost use Rattle.fsrm_model.specs.meaning.Named.{IsNamed};
 ghost use Rattle.fsrm_model.specs.texts.ActText.{act_lines};
@@ -18,25 +18,28 @@ use reply_text::{Line, write_act, write_answer};
 use std::alloc::Global;
 use storage_reports::report;
 
-// Writes the line of each act that waits, in their order.
+// Writes the line of each act that waits, in their order, and answers how many there were, up to `u64::MAX`.
 fn write_acts<S: Sink, L: Ledger>(
     store: &mut Store,
     alloc: Global,
     sink: &mut S,
     steps: &mut Steps<L>,
-) -> Result<(), TextFault>
+) -> Result<u64, TextFault>
     ensures rows { store.new.engine.rows ≡ store.old.engine.rows }
     ensures size { store.new.engine.size ≡ store.old.engine.size }
     ensures journal { KeepsJournal store.old store.new }
     ensures stands { StandsAlike store.old store.new }
     ensures idle { OnOk result (store.new.engine.waiting ≡ []) }
+    ensures count { IfOk result (λ count. count ≡ min (length store.old.engine.waiting) (2 ^ 64 - 1)) }
     ensures writes { Writes S.Sink result sink.old sink.new (act_lines store.old.engine.rows store.old.engine.waiting) }
     ensures looks { steps.new ≤ steps.old + acts_cost store.old.engine.rows.nodes store.old.engine.waiting }
 {
+    let mut count = 0u64;
     while let Some(act) = store.next_act() {
         write_act(alloc, sink, &act, store.engine(), steps)?;
+        count = count.saturating_add(1);
     }
-    Ok(())
+    Ok(count)
 }
 
 // Writes the reply to a command that was taken, without its acts. A report is made first.
@@ -61,7 +64,8 @@ fn write_outcome<S: Sink, L: Ledger>(
     }
 }
 
-/// Writes the reply to the command of a line, which was taken, and the acts that it set off.
+/// Writes the reply to the command of a line, which was taken, and the acts that it set off. It answers how many acts there
+/// were, up to `u64::MAX`.
 pub fn write_reply<S: Sink, L: Ledger>(
     store: &mut Store,
     alloc: Global,
@@ -69,7 +73,7 @@ pub fn write_reply<S: Sink, L: Ledger>(
     line: Line,
     answer: &Answer,
     steps: &mut Steps<L>,
-) -> Result<(), TextFault>
+) -> Result<u64, TextFault>
     requires named { IsNamed store.old.engine.rows answer.now.outcome }
     requires calm { answer.now.lasting ≡ false → store.old.engine.waiting ≡ [] }
     ensures rows { store.new.engine.rows ≡ store.old.engine.rows }
@@ -77,13 +81,14 @@ pub fn write_reply<S: Sink, L: Ledger>(
     ensures journal { KeepsJournal store.old store.new }
     ensures stands { StandsAlike store.old store.new }
     ensures idle { OnOk result (store.new.engine.waiting ≡ []) }
+    ensures count { IfOk result (λ count. count ≡ min (length store.old.engine.waiting) (2 ^ 64 - 1)) }
     ensures writes { Writes S.Sink result sink.old sink.new (told store.old.engine.size store.old.engine.rows store.old.engine.waiting line answer.now.outcome) }
     ensures looks { steps.new ≤ steps.old + telling_cost store.old.engine.size store.old.engine.rows store.old.engine.waiting line.moment answer.now.outcome }
 {
     write_outcome(alloc, sink, line, answer, store.engine(), steps)?;
     // A command that doesn't last has no action run.
     if !answer.lasting {
-        return Ok(());
+        return Ok(0);
     }
     write_acts(store, alloc, sink, steps)
 }

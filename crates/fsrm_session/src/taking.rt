@@ -1,6 +1,6 @@
 //! Commands are taken: journaled, if they last, and their replies told.
 
-ghost use Rattle.std.specs.Prelude.{◌≡◌, ◌∷◌, [], true, OnOk, MatchResult, IsErrOf};
+ghost use Rattle.std.specs.Prelude.{◌≡◌, ◌<◌, ◌∷◌, [], length, true, OnOk, MatchResult, IsErrOf};
 ghost use Rattle.fsrm_model.specs.store.Valued.{is_command};
 ghost use Rattle.fsrm_model.specs.texts.Text.{is_bare};
 ghost use Rattle.fsrm_session.specs.Counts.{Counts};
@@ -80,6 +80,7 @@ impl Session {
         ensures reads { O.read_faults outside.new ≡ O.read_faults outside.old }
         ensures left { O.left outside.new ≡ O.left outside.old }
         ensures size { OnOk result (self.new.store.engine.size ≡ self.old.store.engine.size) }
+        ensures rows { OnOk result (self.new.store.engine.rows ≡ (command_turn self.old.store.engine.size number command.now).after self.old.store.engine.rows) }
         ensures full_size { IsErrOf result Stop.NoMemory → self.new.store.engine.size ≡ self.old.store.engine.size }
         ensures looks { Spends (members O.Source O.Sink O.Disk) (command_turn self.old.store.engine.size number command.now ∷ []) self.old outside.old steps.old steps.new (bytes_after result self.new) }
     {
@@ -97,7 +98,7 @@ impl Session {
     }
 
     /// Takes a command, keeps it if it lasts, and tells its reply and acts. Its line has this number. The reply to a command
-    /// that is kept is shown once the command is.
+    /// that is kept is shown once the command is. After it less than 1 MiB of text waits, as after each call that tells.
     pub fn take<O: Outside, L: Ledger>(
         &mut self,
         outside: &mut O,
@@ -114,7 +115,9 @@ impl Session {
         ensures reads { O.read_faults outside.new ≡ O.read_faults outside.old }
         ensures left { O.left outside.new ≡ O.left outside.old }
         ensures size { OnOk result (self.new.store.engine.size ≡ self.old.store.engine.size) }
+        ensures rows { OnOk result (self.new.store.engine.rows ≡ (command_turn self.old.store.engine.size number command.now).after self.old.store.engine.rows) }
         ensures full_size { IsErrOf result Stop.NoMemory → self.new.store.engine.size ≡ self.old.store.engine.size }
+        ensures few { OnOk result (length self.new.kept.items < 1048576) }
         ensures looks { Spends (members O.Source O.Sink O.Disk) (command_turn self.old.store.engine.size number command.now ∷ []) self.old outside.old steps.old steps.new (bytes_after result self.new) }
     {
         self.prepare(outside, &command.deed, steps)?;
@@ -139,6 +142,7 @@ impl Session {
         ensures reads { O.read_faults outside.new ≡ O.read_faults outside.old }
         ensures left { O.left outside.new ≡ O.left outside.old }
         ensures size { self.new.store.engine.size ≡ self.old.store.engine.size }
+        ensures few { OnOk result (length self.new.kept.items < 1048576) }
         ensures looks { Spends (members O.Source O.Sink O.Disk) (refused_turn self.old.store.engine.size number refusal ∷ []) self.old outside.old steps.old steps.new (bytes_after result self.new) }
     {
         let answer = Answer {

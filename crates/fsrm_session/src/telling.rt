@@ -38,6 +38,7 @@ impl Session {
         ensures reads { O.read_faults outside.new ≡ O.read_faults outside.old }
         ensures left { O.left outside.new ≡ O.left outside.old }
         ensures size { self.new.store.engine.size ≡ self.old.store.engine.size }
+        ensures rows { self.new.store.engine.rows ≡ self.old.store.engine.rows }
         ensures journal { KeepsJournal self.old.store self.new.store }
         ensures looks { steps.new ≤ steps.old + telling_cost self.old.store.engine.size self.old.store.engine.rows self.old.store.engine.waiting line.moment answer.now.outcome }
     {
@@ -46,7 +47,7 @@ impl Session {
             device: outside,
         };
         match write_reply(&mut self.store, self.alloc, &mut batch, line, answer, steps) {
-            Ok(()) => Ok(()),
+            Ok(_acts) => Ok(()),
             Err(TextFault::WriteFault) => Err(Stop::WriteFault),
             Err(TextFault::NoMemory) => Err(Stop::NoMemory),
         }
@@ -69,6 +70,7 @@ impl Session {
         ensures ready { OnOk result (CanTake O.reads self.new outside.new) }
         ensures memory { IsErrOf result Stop.NoMemory → CanFlush O.reads self.new outside.new }
         ensures size { self.new.store.engine.size ≡ self.old.store.engine.size }
+        ensures rows { self.new.store.engine.rows ≡ self.old.store.engine.rows }
         ensures journal { KeepsJournal self.old.store self.new.store }
         ensures looks { steps.new ≤ steps.old + telling_cost self.old.store.engine.size self.old.store.engine.rows self.old.store.engine.waiting line.moment answer.now.outcome }
     {
@@ -102,6 +104,7 @@ impl Session {
         ensures reads { O.read_faults outside.new ≡ O.read_faults outside.old }
         ensures left { O.left outside.new ≡ O.left outside.old }
         ensures size { self.new.store.engine.size ≡ self.old.store.engine.size }
+        ensures rows { self.new.store.engine.rows ≡ self.old.store.engine.rows }
         ensures journal { KeepsJournal self.old.store self.new.store }
         ensures looks { steps.new ≤ steps.old + telling_cost self.old.store.engine.size self.old.store.engine.rows self.old.store.engine.waiting line.moment answer.now.outcome }
     {

@@ -1,16 +1,17 @@
-use Rattle.std.proofs.Common.{List, [], ◌∷◌, ◌++◌, length, refl, sym, ap, subst, ◌∙◌, arith}
+use Rattle.std.proofs.Common.{List, [], ◌∷◌, ◌++◌, length, refl, sym, ap, subst, ◌∙◌, arith, length-append}
 use Rattle.fsrm_model.specs.declared.command.Act.{Act}
 use Rattle.fsrm_model.specs.objects.Acts.{IsAct}
 use Rattle.fsrm_model.specs.store.Valid.{IsValid}
 use Rattle.fsrm_model.specs.texts.ActText.{act_lines}
 use Rattle.fsrm_engine.specs.Machine.{Machine}
 use Rattle.line_parts.proofs.Sent.{cut_second, none_written, passed_on, told, two_texts}
+use Rattle.fsrm_session.proofs.Unshown.{as_err, as_ok}
 use Rattle.fsrm_session.proofs.Handing.{keeps_same, keeps_then, alike_same, alike_then, one_handed, all_handed, line_is, lines_are, looks_more, looks_broken}
 use Rattle.fsrm_session.proofs.replies.write_acts.Goals as goal
 
 pub loop-act-init : goal.loop-act-init
 loop-act-init g c =
-    ([], record { size = refl; rows = refl; journal = keeps_same c.args.store.now; stands = alike_same c.args.store.now; handed = refl; writes = none_written c.args.sink.now g.met.S.Sink.write_same; looks = omega arith })
+    ([], record { size = refl; rows = refl; journal = keeps_same c.args.store.now; stands = alike_same c.args.store.now; count = omega arith; handed = refl; writes = none_written c.args.sink.now g.met.S.Sink.write_same; looks = omega arith })
 
 pub write_act-requires-clause-store : goal.write_act-requires-clause-store
 write_act-requires-clause-store g c = subst (λ (m : Machine). IsValid m.size m.rows) (sym c.engine.ensures.lent) c.engine.ensures.valid
@@ -37,6 +38,7 @@ loop-act-preserved g c =
         rows = rows;
         journal = keeps_then kept.journal c.next_act.ensures.journal;
         stands = alike_then kept.stands c.next_act.ensures.stands;
+        count = omega (arith, length-append done (act ∷ []));
         handed = one_handed first.waiting done c.loop-act.store.engine.waiting next.waiting act kept.handed c.in-Some.ensures.handed_out;
         writes = two_texts g.met.S.Sink.write_then (line_is first.rows lent.rows done act still) kept.writes c.in_ok-write_act.ensures.writes;
         looks = looks_more first.rows lent.rows done act c.args.steps.now c.loop-act.steps c.write_act.new.steps still kept.looks c.in_ok-write_act.ensures.looks;
@@ -63,9 +65,10 @@ returns-in_err-write_act-clause-writes g c =
     let done = c.loop-act.invariant.0 in
     let kept = c.loop-act.invariant.1 in
     passed_on c.from_residual.result c.from_residual.ensures.1
+    (as_err
     (cut_second _ g.met.S.Sink.write_then
     (lines_are first.rows c.engine.result.now.rows first.waiting done next.waiting act (ap (λ (m : Machine). m.rows) c.engine.ensures.lent ∙ c.next_act.ensures.rows ∙ kept.rows) (one_handed first.waiting done c.loop-act.store.engine.waiting next.waiting act kept.handed c.in-Some.ensures.handed_out))
-    kept.writes c.in_err-write_act.ensures.writes)
+    kept.writes c.in_err-write_act.ensures.writes))
 
 pub returns-in_err-write_act-clause-looks : goal.returns-in_err-write_act-clause-looks
 returns-in_err-write_act-clause-looks g c =
@@ -96,7 +99,13 @@ pub returns-clause-writes : goal.returns-clause-writes
 returns-clause-writes g c =
     let first = c.args.store.now.engine in
     let kept = c.loop-act.invariant.1 in
-    told (ap (act_lines first.rows) (all_handed first.waiting c.loop-act.invariant.0 c.loop-act.store.engine.waiting kept.handed c.in_default.ensures.handed_out)) kept.writes
+    as_ok (told (ap (act_lines first.rows) (all_handed first.waiting c.loop-act.invariant.0 c.loop-act.store.engine.waiting kept.handed c.in_default.ensures.handed_out)) kept.writes)
+
+pub returns-clause-count : goal.returns-clause-count
+returns-clause-count g c =
+    let kept = c.loop-act.invariant.1 in
+    let all = all_handed c.args.store.now.engine.waiting c.loop-act.invariant.0 c.loop-act.store.engine.waiting kept.handed c.in_default.ensures.handed_out in
+    omega (arith, kept.count, ap (λ (acts : List Act). length acts) all)
 
 pub returns-clause-looks : goal.returns-clause-looks
 returns-clause-looks g c =

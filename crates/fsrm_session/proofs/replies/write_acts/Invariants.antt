@@ -1,4 +1,5 @@
-use Rattle.std.proofs.Common.{◌≡◌, ◌+◌, ◌≤◌, List, ◌++◌, length}
+use Rattle.std.proofs.Common.{◌≡◌, ◌+◌, ◌-◌, ◌≤◌, List, ◌++◌, length}
+use Rattle.std.specs.Prelude.{◌^◌, min}
 use Rattle.fsrm_model.specs.declared.command.Act.{Act}
 use Rattle.fsrm_model.specs.texts.ActText.{act_lines}
 use Rattle.fsrm_model.specs.commands.Cost.{acts_cost}
@@ -14,6 +15,7 @@ invariant-loop-act g l =
       rows : l.store.engine.rows ≡ l.fn.store.engine.rows;
       journal : KeepsJournal l.fn.store l.store;
       stands : StandsAlike l.fn.store l.store;
+      count : l.count ≡ min (length done) (2 ^ 64 - 1);
       handed : l.fn.store.engine.waiting ≡ done ++ l.store.engine.waiting;
       writes : Written g.S.Sink l.fn.sink l.sink (act_lines l.fn.store.engine.rows done);
       looks : l.steps ≤ l.fn.steps + acts_cost l.fn.store.engine.rows.nodes done;

@@ -1,8 +1,10 @@
-use Rattle.std.proofs.Common.{ℕ, List, ◌++◌, sym, ap, subst, ◌∙◌, arith}
+use Rattle.std.proofs.Common.{ℕ, List, ◌++◌, length, sym, ap, subst, ◌∙◌, arith}
+use Rattle.fsrm_model.specs.declared.command.Act.{Act}
 use Rattle.fsrm_model.specs.meaning.Named.{IsNamed}
 use Rattle.fsrm_model.specs.texts.ActText.{act_lines}
 use Rattle.fsrm_engine.specs.Machine.{Machine}
 use Rattle.line_parts.proofs.Sent.{cut_first, passed_on, told, two_texts}
+use Rattle.fsrm_session.proofs.Unshown.{as_err, as_ok}
 use Rattle.fsrm_session.proofs.Handing.{keeps_same, alike_same, reply_lent, cost_lent, told_alone}
 use Rattle.fsrm_session.proofs.replies.write_reply.Goals as goal
 
@@ -20,7 +22,7 @@ returns-in_err-write_outcome-clause-writes g c =
     let e = c.args.store.now.engine in
     let same = reply_lent c.engine.result.now e c.args.line.moment c.args.line.number c.args.answer.now.outcome c.engine.ensures.lent in
     let rest = act_lines e.rows e.waiting in
-    passed_on c.from_residual.result c.from_residual.ensures.1 (cut_first rest (ap (λ (l : List ℕ). l ++ rest) same) c.in_err-write_outcome.ensures.writes)
+    passed_on c.from_residual.result c.from_residual.ensures.1 (as_err (cut_first rest (ap (λ (l : List ℕ). l ++ rest) same) c.in_err-write_outcome.ensures.writes))
 
 pub returns-in_err-write_outcome-clause-looks : goal.returns-in_err-write_outcome-clause-looks
 returns-in_err-write_outcome-clause-looks g c =
@@ -37,7 +39,10 @@ pub returns-then-not-answer-clause-writes : goal.returns-then-not-answer-clause-
 returns-then-not-answer-clause-writes g c =
     let e = c.args.store.now.engine in
     let same = reply_lent c.engine.result.now e c.args.line.moment c.args.line.number c.args.answer.now.outcome c.engine.ensures.lent in
-    told (same ∙ told_alone e.size e.rows e.waiting c.args.line c.args.answer.now.outcome (c.requires.calm c.if-not-answer.true)) c.in_ok-write_outcome.ensures.writes
+    as_ok (told (same ∙ told_alone e.size e.rows e.waiting c.args.line c.args.answer.now.outcome (c.requires.calm c.if-not-answer.true)) c.in_ok-write_outcome.ensures.writes)
+
+pub returns-then-not-answer-clause-count : goal.returns-then-not-answer-clause-count
+returns-then-not-answer-clause-count g c = omega (arith, ap (λ (acts : List Act). length acts) (c.requires.calm c.if-not-answer.true))
 
 pub returns-then-not-answer-clause-looks : goal.returns-then-not-answer-clause-looks
 returns-then-not-answer-clause-looks g c =
@@ -48,7 +53,7 @@ pub returns-clause-writes : goal.returns-clause-writes
 returns-clause-writes g c =
     let e = c.args.store.now.engine in
     let same = reply_lent c.engine.result.now e c.args.line.moment c.args.line.number c.args.answer.now.outcome c.engine.ensures.lent in
-    two_texts g.met.S.Sink.write_then (ap (λ (l : List ℕ). l ++ act_lines e.rows e.waiting) same) c.in_ok-write_outcome.ensures.writes c.write_acts.ensures.writes
+    two_texts g.met.S.Sink.write_then (ap (λ (l : List ℕ). l ++ act_lines e.rows e.waiting) same) (as_ok {x = tt} {y = 0} c.in_ok-write_outcome.ensures.writes) c.write_acts.ensures.writes
 
 pub returns-clause-looks : goal.returns-clause-looks
 returns-clause-looks g c =

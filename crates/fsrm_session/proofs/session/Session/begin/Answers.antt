@@ -1,4 +1,4 @@
-use Rattle.std.proofs.Common.{◌≡◌, ◌≤◌, Err, rules, refl, ◌∙◌, ap, arith}
+use Rattle.std.proofs.Common.{◌≡◌, Err, rules, refl, ◌∙◌, ap, arith}
 use Rattle.fsrm_engine.specs.Machine.{Machine}
 use Rattle.fsrm_session.specs.declared.session.Session.{Session}
 use Rattle.fsrm_session.proofs.Going.{alike_calms, calms_full, calms_then, ready_alike}

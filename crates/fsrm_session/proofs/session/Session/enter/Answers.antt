@@ -1,4 +1,4 @@
-use Rattle.std.proofs.Common.{◌≤◌, ◌+◌, [], ◌∷◌, arith, refl, sym, ◌∙◌, ap}
+use Rattle.std.proofs.Common.{[], ◌∷◌, arith, refl, sym, ◌∙◌, ap}
 use Rattle.std.specs.Prelude.{Err}
 use Rattle.fsrm_store.specs.declared.fault.StoreFault.{StoreFault}
 use Rattle.fsrm_store.specs.Amortized.{bytes_left, bytes_since}
@@ -9,6 +9,7 @@ use Rattle.fsrm_session.proofs.Entering.{entered_result, full_stops, only_disk, 
 use Rattle.fsrm_session.proofs.Handing.{calm_step}
 use Rattle.fsrm_session.proofs.Object.{laws_of}
 use Rattle.fsrm_session.proofs.Spending.{after_same, spends_command, told_cost}
+use Rattle.fsrm_session.proofs.Said.{on_ok}
 use Rattle.fsrm_session.proofs.session.Session.enter.Goals as goal
 
 pub tell-requires-clause-calm : goal.tell-requires-clause-calm
@@ -30,7 +31,7 @@ returns-in-Ok-clause-runs g c =
     let number = c.args.number in
     entered_result c.tell.result (command_turn e.size number command) (told now.size now.rows now.waiting (record { number = number; moment = command.moment }) outcome) was next c.tell.new.self c.args.outside.now c.apply.new.disk c.tell.new.outside laws
     (said_told e.size now.size e.rows now.rows now.waiting outcome number command took.size_is took.rows_are took.acts_are took.outcome_is)
-    (store_enters number command was next c.args.outside.now c.apply.new.disk laws c.apply.ensures.by refl took.size_is took.rows_are (record { leaves = c.apply.ensures.leaves }) (record { stands = c.in-Ok.ensures.store }))
+    (store_enters (command_turn e.size number command) command was next c.args.outside.now c.apply.new.disk laws c.apply.ensures.by (λ R. refl) refl took.size_is took.rows_are (record { leaves = c.apply.ensures.leaves }) (record { stands = c.in-Ok.ensures.store }))
     c.tell.ensures.runs
 
 pub returns-in-NoMemory-clause-runs : goal.returns-in-NoMemory-clause-runs
@@ -42,8 +43,8 @@ returns-in-NoMemory-clause-runs g c =
 pub returns-in_default-clause-runs : goal.returns-in_default-clause-runs
 returns-in_default-clause-runs g c =
     let was = c.args.self.now in
-    store_stops c.args.number c.args.command.now was (record { store = c.apply.new.self; kept = was.kept; alloc = was.alloc }) c.args.outside.now c.apply.new.disk (laws_of g.met.O.Sink g.met.O.Disk g.met.O.Outside) c.apply.ensures.by
-    (record { leaves = c.apply.ensures.leaves })
+    store_stops (command_turn was.store.engine.size c.args.number c.args.command.now) c.args.command.now was (record { store = c.apply.new.self; kept = was.kept; alloc = was.alloc }) c.args.outside.now c.apply.new.disk (laws_of g.met.O.Sink g.met.O.Disk g.met.O.Outside) c.apply.ensures.by
+    (λ R. refl) (record { leaves = c.apply.ensures.leaves })
 
 pub returns-in_default-clause-counts : goal.returns-in_default-clause-counts
 returns-in_default-clause-counts g c =
@@ -73,3 +74,7 @@ returns-in-NoMemory-clause-looks g c =
 pub returns-in_default-clause-looks : goal.returns-in_default-clause-looks
 returns-in_default-clause-looks g c =
     spends_command c.args.number c.args.command.now c.args.self.now c.args.outside.now c.args.steps.now c.apply.new.steps 0 c.apply.new.steps (bytes_left c.apply.result c.apply.new.self) 0 c.apply.ensures.amortized (omega arith) (omega arith) (omega arith)
+
+-- the rows that it leaves
+pub returns-in-Ok-clause-rows : goal.returns-in-Ok-clause-rows
+returns-in-Ok-clause-rows g c = on_ok c.tell.result _ (c.tell.ensures.rows ∙ c.in-Ok.ensures.ok.rows_are)

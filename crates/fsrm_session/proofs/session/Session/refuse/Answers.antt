@@ -1,4 +1,4 @@
-use Rattle.std.proofs.Common.{◌≡◌, ◌≤◌, arith, [], ◌∷◌, rules, refl}
+use Rattle.std.proofs.Common.{◌≡◌, arith, [], ◌∷◌, rules, refl}
 use Rattle.std.specs.Prelude.{Err}
 use Rattle.fsrm_model.specs.declared.command.Outcome.TheVariants.{Refused}
 use Rattle.fsrm_store.specs.Amortized.{bytes_since}

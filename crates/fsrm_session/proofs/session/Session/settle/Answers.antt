@@ -1,4 +1,4 @@
-use Rattle.std.proofs.Common.{◌≤◌, ap, arith, length, refl}
+use Rattle.std.proofs.Common.{ap, arith, length, refl}
 use Rattle.fsrm_model.specs.store.Lasting.{lasting}
 use Rattle.fsrm_store.specs.Amortized.{bytes_since}
 use Rattle.fsrm_store.specs.declared.store.Store.{Store}

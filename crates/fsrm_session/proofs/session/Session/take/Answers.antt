@@ -1,4 +1,4 @@
-use Rattle.std.proofs.Common.{◌≡◌, ◌≤◌, arith, [], ◌∷◌, rules}
+use Rattle.std.proofs.Common.{◌≡◌, ◌∙◌, ap, arith, [], ◌∷◌, rules}
 use Rattle.std.specs.Prelude.{Err}
 use Rattle.fsrm_store.specs.Amortized.{bytes_since}
 use Rattle.fsrm_session.specs.Turns.{command_turn}
@@ -7,6 +7,8 @@ use Rattle.fsrm_session.proofs.Going.{breaks_stop, calms_goes, calms_stops}
 use Rattle.fsrm_session.proofs.Object.{laws_of}
 use Rattle.fsrm_session.proofs.Results.{after_ease, stops_passed}
 use Rattle.fsrm_session.proofs.Spending.{after_fault, calm_then, spends_ease, spends_first, spends_less, then_ease}
+use Rattle.fsrm_engine.specs.Machine.{Machine}
+use Rattle.fsrm_session.proofs.Said.{on_ok}
 use Rattle.fsrm_session.proofs.session.Session.take.Goals as goal
 
 pub returns-in_err-prepare-clause-runs : goal.returns-in_err-prepare-clause-runs
@@ -74,3 +76,10 @@ returns-clause-looks g c =
     (calm_then turns was mid c.args.outside.now c.prepare.new.outside c.args.steps.now c.prepare.new.steps c.enter.new.steps (bytes_since next.store.journal) laws c.in_ok-prepare.ensures.runs c.in_ok-prepare.ensures.looks
     (rw (← c.prepare.ensures.engine) c.in_ok-enter.ensures.looks))
     c.ease.ensures.looks
+
+-- the rows that it leaves
+pub returns-clause-rows : goal.returns-clause-rows
+returns-clause-rows g c =
+    on_ok c.ease.result _
+    (ap (λ (m : Machine). m.rows) c.ease.ensures.engine
+    ∙ (c.in_ok-enter.ensures.rows ∙ ap (λ (m : Machine). (command_turn m.size c.args.number c.args.command.now).after m.rows) c.prepare.ensures.engine))

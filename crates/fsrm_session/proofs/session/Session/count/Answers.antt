@@ -1,0 +1,89 @@
+use Rattle.std.proofs.Common.{[], ◌∷◌, arith, refl, sym, ◌∙◌, ap}
+use Rattle.std.specs.Prelude.{Err}
+use Rattle.fsrm_store.specs.declared.fault.StoreFault.{StoreFault}
+use Rattle.fsrm_store.specs.Amortized.{bytes_left, bytes_since}
+use Rattle.fsrm_session.specs.Turns.{command_turn, telling_cost, unshown}
+use Rattle.fsrm_session.specs.declared.session.Session.{Session}
+use Rattle.fsrm_session.specs.Spending.{bytes_after}
+use Rattle.fsrm_session.proofs.Unshown.{counted_goes, if_ok_as, tally_is, unshown_spends}
+use Rattle.fsrm_session.proofs.Said.{on_ok}
+use Rattle.fsrm_session.proofs.Entering.{full_stops, only_disk, store_enters, store_stops}
+use Rattle.fsrm_session.proofs.Handing.{calm_step}
+use Rattle.fsrm_session.proofs.Object.{laws_of}
+use Rattle.fsrm_session.proofs.Spending.{after_same, spends_command, told_cost}
+use Rattle.fsrm_session.proofs.session.Session.count.Goals as goal
+
+pub tally-requires-clause-calm : goal.tally-requires-clause-calm
+tally-requires-clause-calm g c still =
+    let e = c.args.self.now.store.engine in
+    let took = c.in-Ok.ensures.ok in
+    took.acts_are ∙ calm_step e.size e.rows c.args.command.now (sym took.lasting_is ∙ still)
+
+pub returns-in-Ok-clause-runs : goal.returns-in-Ok-clause-runs
+returns-in-Ok-clause-runs g c =
+    let laws = laws_of g.met.O.Sink g.met.O.Disk g.met.O.Outside in
+    let was = c.args.self.now in
+    let e = was.store.engine in
+    let next : Session = record { store = c.apply.new.self; kept = was.kept; alloc = was.alloc } in
+    let took = c.in-Ok.ensures.ok in
+    let command = c.args.command.now in
+    let turn = unshown (command_turn e.size c.args.number command) in
+    counted_goes c.tally.result turn was next c.tally.new.self c.args.outside.now c.apply.new.disk laws refl
+    (store_enters turn command was next c.args.outside.now c.apply.new.disk laws c.apply.ensures.by (λ R. refl) refl took.size_is took.rows_are (record { leaves = c.apply.ensures.leaves }) (record { stands = c.in-Ok.ensures.store }))
+    c.tally.ensures.stands (ap (λ v. v.items) c.tally.ensures.kept) c.tally.ensures.only
+
+pub returns-in-Ok-clause-tally : goal.returns-in-Ok-clause-tally
+returns-in-Ok-clause-tally g c =
+    let e = c.args.self.now.store.engine in
+    let now = c.apply.new.self.engine in
+    let took = c.in-Ok.ensures.ok in
+    if_ok_as c.tally.result _ _ (tally_is e.size now.size e.rows now.rows now.waiting c.in-Ok.answer.outcome c.args.number c.args.command.now took.size_is took.rows_are took.acts_are took.outcome_is) c.tally.ensures.tally
+
+pub returns-in-NoMemory-clause-runs : goal.returns-in-NoMemory-clause-runs
+returns-in-NoMemory-clause-runs g c =
+    let was = c.args.self.now in
+    full_stops (unshown (command_turn was.store.engine.size c.args.number c.args.command.now) ∷ []) was (record { store = c.apply.new.self; kept = was.kept; alloc = was.alloc }) c.args.outside.now c.apply.new.disk (laws_of g.met.O.Sink g.met.O.Disk g.met.O.Outside)
+    (c.apply.ensures.full (c.in-Err.is ∙ ap (λ (f : StoreFault). Err f) c.in-NoMemory.is)) refl
+
+pub returns-in_default-clause-runs : goal.returns-in_default-clause-runs
+returns-in_default-clause-runs g c =
+    let was = c.args.self.now in
+    store_stops (unshown (command_turn was.store.engine.size c.args.number c.args.command.now)) c.args.command.now was (record { store = c.apply.new.self; kept = was.kept; alloc = was.alloc }) c.args.outside.now c.apply.new.disk (laws_of g.met.O.Sink g.met.O.Disk g.met.O.Outside) c.apply.ensures.by
+    (λ R. refl) (record { leaves = c.apply.ensures.leaves })
+
+pub returns-in_default-clause-counts : goal.returns-in_default-clause-counts
+returns-in_default-clause-counts g c =
+    let is = only_disk _ c.in-Err.fault refl c.in-Err.ensures.only c.in_default.not-NoMemory in
+    ((g.met.O.Outside.disk_keeps_sink c.args.outside.now c.apply.new.disk c.apply.ensures.by).same_faults, record { later = c.apply.ensures.later; rose = c.in-Err.ensures.failed is })
+
+-- what it takes
+pub returns-in-Ok-clause-looks : goal.returns-in-Ok-clause-looks
+returns-in-Ok-clause-looks g c =
+    let was = c.args.self.now in
+    let e = was.store.engine in
+    let now = c.apply.new.self.engine in
+    let outcome = c.in-Ok.answer.outcome in
+    let command = c.args.command.now in
+    let took = c.in-Ok.ensures.ok in
+    let told = telling_cost now.size now.rows now.waiting command.moment outcome in
+    unshown_spends (command_turn e.size c.args.number command) was c.args.outside.now c.args.steps.now c.tally.new.steps (bytes_after c.tally.result c.tally.new.self)
+    (spends_command c.args.number command was c.args.outside.now c.args.steps.now c.apply.new.steps told c.tally.new.steps (bytes_since c.apply.new.self.journal) (bytes_after c.tally.result c.tally.new.self) c.in-Ok.ensures.amortized
+    (told_cost e.size now.size e.rows now.rows now.waiting outcome command took.size_is took.rows_are took.acts_are took.outcome_is) c.tally.ensures.looks (after_same c.tally.result c.tally.new.self c.apply.new.self.journal c.tally.ensures.journal.journal))
+
+pub returns-in-NoMemory-clause-looks : goal.returns-in-NoMemory-clause-looks
+returns-in-NoMemory-clause-looks g c =
+    let was = c.args.self.now in
+    let now = c.apply.new.self in
+    let full = c.in-Err.is ∙ ap (λ (f : StoreFault). Err f) c.in-NoMemory.is in
+    unshown_spends (command_turn was.store.engine.size c.args.number c.args.command.now) was c.args.outside.now c.args.steps.now c.apply.new.steps (bytes_since now.journal)
+    (spends_command c.args.number c.args.command.now was c.args.outside.now c.args.steps.now c.apply.new.steps 0 c.apply.new.steps (bytes_left c.apply.result now) (bytes_since now.journal) c.apply.ensures.amortized (omega arith) (omega arith)
+    (omega (arith, ap (λ r. bytes_left r now) full)))
+
+pub returns-in_default-clause-looks : goal.returns-in_default-clause-looks
+returns-in_default-clause-looks g c =
+    let was = c.args.self.now in
+    unshown_spends (command_turn was.store.engine.size c.args.number c.args.command.now) was c.args.outside.now c.args.steps.now c.apply.new.steps 0
+    (spends_command c.args.number c.args.command.now was c.args.outside.now c.args.steps.now c.apply.new.steps 0 c.apply.new.steps (bytes_left c.apply.result c.apply.new.self) 0 c.apply.ensures.amortized (omega arith) (omega arith) (omega arith))
+
+pub returns-in-Ok-clause-rows : goal.returns-in-Ok-clause-rows
+returns-in-Ok-clause-rows g c = on_ok c.tally.result _ (c.tally.ensures.stands.rows ∙ c.in-Ok.ensures.ok.rows_are)
