@@ -1,31 +1,37 @@
 -- What a run promises that does nothing, and what follows of each status.
-use Rattle.std.proofs.Common.{◌≡◌, ◌≢◌, inl, inr, ⊎_elim, ℕ, ◌+◌, ◌≤◌, ◌<◌, Some, List, [], ◌++◌, length, drop, true, false, refl, sym, ◌∙◌, ap, subst, arith, length-append}
+use Rattle.std.proofs.Common.{◌≡◌, ◌≢◌, inl, inr, ℕ, ◌+◌, ◌≤◌, ◌<◌, Some, List, [], length, drop, true, false, refl, sym, ◌∙◌, ap, subst, arith, length-append}
 use Rattle.std.specs.Prelude.{◌⊎◌, None, Option}
+use Rattle.std.proofs.lemmas.Bool.Decides.{nat_tests}
 use Rattle.std.proofs.lemmas.List.{append-nil, length-drop}
 use Rattle.fsrm_model.specs.declared.row.Capacity.{Capacity}
 use Rattle.fsrm_model.specs.declared.row.Rows.{Rows}
 use Rattle.fsrm_model.specs.lines.Script.{text}
 use Rattle.fsrm_model.specs.store.Capacities.{is_capacity}
-use Rattle.fsrm_model.specs.values.Limits.{longest_script}
-use Rattle.fsrm_outside.specs.Causes.{Rose}
+use Rattle.fsrm_model.specs.store.Valid.{is_moment}
+use Rattle.fsrm_model.specs.values.Limits.{latest_moment, longest_script}
 use Rattle.fsrm_outside.specs.Changes.{Same, Through}
 use Rattle.fsrm_outside.specs.Members.{Members}
 use Rattle.fsrm_outside.specs.Parts.{Parts}
 use Rattle.fsrm_outside.specs.Runs.{CrashSafe}
 use Rattle.fsrm_outside.specs.declared.traits.Part.{Part}
 use Rattle.fsrm_outside.proofs.Stages.{some_is}
-use Rattle.fsrm_journal.specs.Formatted.{has_store, SameButGates}
-use Rattle.fsrm_store.specs.Init.{HoldsNew, MakesStore}
+use Rattle.fsrm_journal.specs.Formatted.{has_store}
+use Rattle.fsrm_store.specs.Init.{MakesStore}
 use Rattle.fsrm_store.specs.declared.fault.StoreFault.{StoreFault}
 use Rattle.fsrm_store.specs.declared.fault.StoreFault.TheVariants as faults
 use Rattle.fsrm_store.specs.States.{state_of}
 use Rattle.fsrm_store.specs.States.State.{DamagedAt, Holds, NoState}
+use Rattle.fsrm_session.specs.Turns.{Turn, text_of}
+use Rattle.made_script.specs.Summary.{summary}
 use Rattle.program_words.specs.Modes.{IsLegal}
 use Rattle.program_words.specs.declared.modes.Mode.{Mode}
-use Rattle.program_words.specs.declared.modes.Mode.TheVariants.{Init, Replay, Show, Outbox}
-use Rattle.fsrm_modes.specs.Answers.{most_taken, Fits, FitsInit, FitsReplay, FitsShow, IsDoneOrNoMemory, IsQuiet, IsTooLong, Tells, TellsNew, TellsStore}
+use Rattle.program_words.specs.declared.modes.Mode.TheVariants.{Init, Replay, Expire, Tick}
+use Rattle.fsrm_modes.specs.Answers.{most_taken, Fits, FitsInit, FitsReplay, FitsUnread, IsDoneOrNoMemory, IsQuiet, IsReadyOver, IsTooLong, Tells, TellsNew, TellsStore}
 use Rattle.fsrm_modes.specs.Bytes.{TakenMost}
-use Rattle.fsrm_modes.specs.Promises.{Begins, Replays, Shows}
+use Rattle.fsrm_modes.specs.Looks.{FewForTurns}
+use Rattle.fsrm_modes.specs.OwnTurns.{TakesTurns}
+use Rattle.fsrm_modes.specs.Promises.{Replays, Shows}
+use Rattle.fsrm_modes.specs.Working.{Works}
 use Rattle.fsrm_modes.specs.Statuses.{KeepsDisk, KeepsReads, KeepsWrites, of_store}
 use Rattle.fsrm_modes.specs.declared.status.Status.{Status}
 use Rattle.fsrm_modes.specs.declared.status.Status.TheVariants.{Done, Usage, ReadFault, WriteFault, DiskFault, TooLong, Damaged, NoMemory, NoStore, AlreadyStore}
@@ -87,26 +93,33 @@ idle_replays M K R script before now told = record {
 pub idle_shows : {O : Type 0} (M : Members O) (list before : List ℕ) (now : O) → M.shown now ≡ Some before → Shows M list NoMemory before now
 idle_shows M list before now told = record { front = ([], told ∙ ap (λ (l : List ℕ). Some l) (sym (append-nil before)), (list, refl)); whole = λ e. absurd (cc) }
 
+pub idle_works : {O : Type 0} (M : Members O) (K : Capacity) (R : Rows) (seed count : ℕ) (before : List ℕ) (now : O) → M.shown now ≡ Some before → Works M K R NoMemory seed count before now
+idle_works M K R seed count before now told = record {
+  front = ([], told ∙ ap (λ (l : List ℕ). Some l) (sym (append-nil before)), (summary K R seed count, refl));
+  whole = λ e. absurd (cc);
+  kept = λ e. absurd (cc);
+}
+
+pub idle_takes : {O : Type 0} (M : Members O) (K : Capacity) (R : Rows) (turns : List Turn) (before : List ℕ) (now : O) → M.shown now ≡ Some before → TakesTurns M K R NoMemory turns before now
+idle_takes M K R turns before now told = record {
+  front = ([], told ∙ ap (λ (l : List ℕ). Some l) (sym (append-nil before)), (text_of R turns, refl));
+  whole = λ e. absurd (cc);
+  kept = λ e. absurd (cc);
+}
+
+pub idle_looks : (parts : Parts) (R : Rows) (turns : List Turn) (beside looks : ℕ) → FewForTurns parts R turns beside looks looks
+idle_looks parts R turns beside looks = record { opened = looks; opening = inl refl; few = λ ruling tail most judged has within. omega arith }
+
 pub idle_tells : (asked : Mode) (parts : Parts) → Tells asked parts NoMemory
 idle_tells (Init size) parts = tt
-idle_tells (Replay group) parts = tt
-idle_tells Show parts = tt
-idle_tells (Outbox since) parts = tt
+idle_tells other parts = tt
 
 -- ---- how much was taken
 
 -- a status is TooLong if so much was taken
 too_long_only : (status : Status) → longest_script < most_taken status → status ≡ TooLong
 too_long_only TooLong h = refl
-too_long_only Done h = absurd (omega (arith, h))
-too_long_only Usage h = absurd (omega (arith, h))
-too_long_only ReadFault h = absurd (omega (arith, h))
-too_long_only WriteFault h = absurd (omega (arith, h))
-too_long_only DiskFault h = absurd (omega (arith, h))
-too_long_only (Damaged part place) h = absurd (omega (arith, h))
-too_long_only NoMemory h = absurd (omega (arith, h))
-too_long_only NoStore h = absurd (omega (arith, h))
-too_long_only AlreadyStore h = absurd (omega (arith, h))
+too_long_only other h = absurd (omega (arith, h))
 
 pub is_too_long : (status : Status) (script : List ℕ) (before left : Option (List ℕ)) → TakenMost before left (most_taken status) → before ≡ Some script → IsTooLong script left → status ≡ TooLong
 is_too_long status script before left most told long =
@@ -118,39 +131,21 @@ is_too_long status script before left most told long =
 
 pub reads_stay : (status : Status) (r q : ℕ) → q ≡ r → KeepsReads status r q
 reads_stay ReadFault r q same = omega arith
-reads_stay Done r q same = same
-reads_stay Usage r q same = same
-reads_stay WriteFault r q same = same
-reads_stay DiskFault r q same = same
-reads_stay TooLong r q same = same
-reads_stay (Damaged part place) r q same = same
-reads_stay NoMemory r q same = same
-reads_stay NoStore r q same = same
-reads_stay AlreadyStore r q same = same
+reads_stay other r q same = same
 
 pub writes_stay : (status : Status) (w v : ℕ) → v ≡ w → KeepsWrites status w v
 writes_stay ReadFault w v same = omega arith
 writes_stay WriteFault w v same = omega arith
 writes_stay TooLong w v same = omega arith
 writes_stay NoMemory w v same = omega arith
-writes_stay Done w v same = same
-writes_stay Usage w v same = same
-writes_stay DiskFault w v same = same
-writes_stay (Damaged part place) w v same = same
-writes_stay NoStore w v same = same
-writes_stay AlreadyStore w v same = same
+writes_stay other w v same = same
 
 pub disk_stays : (status : Status) (d e : ℕ) → e ≡ d → KeepsDisk status d e
 disk_stays ReadFault d e same = omega arith
 disk_stays DiskFault d e same = omega arith
 disk_stays TooLong d e same = omega arith
 disk_stays NoMemory d e same = omega arith
-disk_stays Done d e same = same
-disk_stays Usage d e same = same
-disk_stays WriteFault d e same = same
-disk_stays (Damaged part place) d e same = same
-disk_stays NoStore d e same = same
-disk_stays AlreadyStore d e same = same
+disk_stays other d e same = same
 
 pub disk_counted : (status : Status) (d e : ℕ) → d ≤ e → (status ≡ DiskFault) ⊎ (e ≡ d) → KeepsDisk status d e
 disk_counted status d e few (inl is) = subst (λ (s : Status). KeepsDisk s d e) (sym is) few
@@ -163,12 +158,7 @@ new_completes parts Done t none disk = tt
 new_completes parts NoMemory t none disk = tt
 new_completes parts AlreadyStore t none disk = absurd (cc (t, none))
 new_completes parts DiskFault t none disk = absurd (disk refl)
-new_completes parts Usage t none disk = absurd t
-new_completes parts ReadFault t none disk = absurd t
-new_completes parts WriteFault t none disk = absurd t
-new_completes parts TooLong t none disk = absurd t
-new_completes parts (Damaged part place) t none disk = absurd t
-new_completes parts NoStore t none disk = absurd t
+new_completes parts other t none disk = absurd t
 
 none_or_rows : (K : Capacity) (R : Rows) → NoState ≡ Holds K R → ⊥
 none_or_rows K R e = absurd (cc)
@@ -185,11 +175,14 @@ store_completes parts K R DiskFault t is reads writes disk long = absurd (disk r
 store_completes parts K R TooLong t is reads writes disk long = absurd (long refl)
 store_completes parts K R NoStore t is reads writes disk long = absurd (none_or_rows K R (sym t ∙ is))
 store_completes parts K R (Damaged part place) t is reads writes disk long = absurd (damaged_or_rows K R part place (sym t ∙ is))
-store_completes parts K R Usage t is reads writes disk long = absurd t
-store_completes parts K R AlreadyStore t is reads writes disk long = absurd t
+store_completes parts K R other t is reads writes disk long = absurd t
 
 pub not_too_long : (script : List ℕ) (left : Option (List ℕ)) (status : Status) → length script ≤ longest_script → (status ≡ TooLong → IsTooLong script left) → status ≡ TooLong → ⊥
 not_too_long script left status short long is = let h = long is in absurd (omega (arith, h.longer, short))
+
+pub completes : (asked : Mode) (parts : Parts) (status : Status) → Tells asked parts status → IsReadyOver asked parts → (status ≡ ReadFault → ⊥) → (status ≡ WriteFault → ⊥) → (status ≡ DiskFault → ⊥) → (status ≡ TooLong → ⊥) → IsDoneOrNoMemory status
+completes (Init size) parts status t ready reads writes disk long = new_completes parts status t ready disk
+completes other parts status t ready reads writes disk long = store_completes parts ready.0 ready.1 status t ready.2 reads writes disk long
 
 -- ---- one mode is asked for
 pub asked_for : (o : Option Mode) (a b : Mode) → o ≡ Some a → o ≡ Some b → a ≡ b
@@ -197,29 +190,6 @@ asked_for o a b p q = some_is (sym p ∙ q)
 
 pub asked_none : (o : Option Mode) (a : Mode) → o ≡ Some a → o ≡ None → ⊥
 asked_none o a p q = absurd (cc)
-
--- and none of another kind
-abbrev pub AreOfKind : Mode → Mode → Type 0
-AreOfKind (Init a) (Init b) = Unit {0}
-AreOfKind (Replay a) (Replay b) = Unit {0}
-AreOfKind Show Show = Unit {0}
-AreOfKind (Outbox a) (Outbox b) = Unit {0}
-AreOfKind a b = ⊥
-
-of_own_kind : (a : Mode) → AreOfKind a a
-of_own_kind (Init size) = tt
-of_own_kind (Replay group) = tt
-of_own_kind Show = tt
-of_own_kind (Outbox since) = tt
-
-pub no_other : (o : Option Mode) (a b : Mode) → o ≡ Some a → o ≡ Some b → AreOfKind a b
-no_other o a b p q = subst (AreOfKind a) (asked_for o a b p q) (of_own_kind a)
-
-pub same_init : (o : Option Mode) (a b : Capacity) → o ≡ Some (Init a) → o ≡ Some (Init b) → a ≡ b
-same_init o a b p q = cc
-
-pub same_outbox : (o : Option Mode) (a b : ℕ) → o ≡ Some (Outbox a) → o ≡ Some (Outbox b) → a ≡ b
-same_outbox o a b p q = cc
 
 -- how a store is made
 pub init_not : (s : Status) → (s ≡ Done) ⊎ (s ≡ AlreadyStore) ⊎ (s ≡ DiskFault) ⊎ (s ≡ NoMemory) → (s ≢ Usage) × (s ≢ ReadFault) × (s ≢ WriteFault) × (s ≢ TooLong)
@@ -238,32 +208,18 @@ init_fits s (inr (inr (inr is))) = subst FitsInit (sym is) tt
 pub replay_fits : (s : Status) → (s ≢ Usage) × (s ≢ AlreadyStore) → FitsReplay s
 replay_fits Usage only = absurd (only.0 refl)
 replay_fits AlreadyStore only = absurd (only.1 refl)
-replay_fits Done only = tt
-replay_fits ReadFault only = tt
-replay_fits WriteFault only = tt
-replay_fits DiskFault only = tt
-replay_fits TooLong only = tt
-replay_fits (Damaged part place) only = tt
-replay_fits NoMemory only = tt
-replay_fits NoStore only = tt
+replay_fits other only = tt
 
-pub show_fits : (s : Status) → (s ≢ Usage) × (s ≢ AlreadyStore) × (s ≢ TooLong) × (s ≢ ReadFault) → FitsShow s
-show_fits Usage only = absurd (only.0 refl)
-show_fits AlreadyStore only = absurd (only.1 refl)
-show_fits TooLong only = absurd (only.2 refl)
-show_fits ReadFault only = absurd (only.3 refl)
-show_fits Done only = tt
-show_fits WriteFault only = tt
-show_fits DiskFault only = tt
-show_fits (Damaged part place) only = tt
-show_fits NoMemory only = tt
-show_fits NoStore only = tt
+pub unread_fits : (s : Status) → (s ≢ Usage) × (s ≢ AlreadyStore) × (s ≢ TooLong) × (s ≢ ReadFault) → FitsUnread s
+unread_fits Usage only = absurd (only.0 refl)
+unread_fits AlreadyStore only = absurd (only.1 refl)
+unread_fits TooLong only = absurd (only.2 refl)
+unread_fits ReadFault only = absurd (only.3 refl)
+unread_fits other only = tt
 
 pub idle_fits : (asked : Mode) → Fits asked NoMemory
 idle_fits (Init size) = tt
-idle_fits (Replay group) = tt
-idle_fits Show = tt
-idle_fits (Outbox since) = tt
+idle_fits other = tt
 
 -- and what the statuses of idle runs aren't
 pub usage_not : (Usage ≢ TooLong) × (Usage ≢ ReadFault) × (Usage ≢ WriteFault) × (Usage ≢ DiskFault)
@@ -286,3 +242,12 @@ legal_size o size is legal = subst IsLegal is legal
 
 pub legal_group : (o : Mode) (group : ℕ) → o ≡ Replay group → IsLegal o → (1 ≤ group) × (group ≤ 1024)
 legal_group o group is legal = subst IsLegal is legal
+
+is_moment_of : (m : ℕ) → m ≤ latest_moment → is_moment m ≡ true
+is_moment_of m h = grind (arith, nat_tests)
+
+pub legal_expiry : (o : Mode) (from to : List (List ℕ)) (days : ℕ) (pattern : List ℕ) (moment : ℕ) → o ≡ Expire from to days pattern moment → IsLegal o → is_moment moment ≡ true
+legal_expiry o from to days pattern moment is legal = let both = subst IsLegal is legal in is_moment_of moment both.1
+
+pub legal_tick : (o : Mode) (moment : ℕ) → o ≡ Tick moment → IsLegal o → is_moment moment ≡ true
+legal_tick o moment is legal = is_moment_of moment (subst IsLegal is legal)

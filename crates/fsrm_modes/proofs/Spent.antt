@@ -126,7 +126,7 @@ pub fault_few : (parts : Parts) (K : Capacity) (R : Rows) (script : List ℕ) (l
 fault_few parts K R script looks steps opening = record { opened = steps; opening = opening; few = λ ruling tail most judged has within. omega arith }
 
 -- it was
-renews : (old version : Bool) (nodes most : ℕ) → old ≡ version → nodes ≤ most → (if old then 2 * nodes else 0) ≤ (if version then 2 * most else 0)
+pub renews : (old version : Bool) (nodes most : ℕ) → old ≡ version → nodes ≤ most → (if old then 2 * nodes else 0) ≤ (if version then 2 * most else 0)
 renews true true nodes most same few = omega (arith, few)
 renews true false nodes most same few = absurd cc
 renews false true nodes most same few = omega arith

@@ -48,7 +48,7 @@ same_rows : (K L : Capacity) (R Q : Rows) → Holds K R ≡ Holds L Q → R ≡ 
 same_rows K L R Q e = cc
 
 -- what a store holds lasts
-lasting_of : (K : Capacity) (R : Rows) (parts : Parts) → state_of parts ≡ Holds K R → lasting R ≡ R
+pub lasting_of : (K : Capacity) (R : Rows) (parts : Parts) → state_of parts ≡ Holds K R → lasting R ≡ R
 lasting_of K R parts is =
     let h = told_holds K R parts is in
     ap lasting (sym h.recovers) ∙ lasting_twice (replayed h.head.size h.base h.entries) ∙ h.recovers

@@ -1,5 +1,5 @@
 -- What the status of a run says.
-use Rattle.std.specs.Prelude.{◌≡◌, ◌⊎◌, ℕ, ◌+◌, ◌≤◌, ◌<◌, List, [], ◌∷◌, ◌++◌, length, drop, true, false, Option, Some}
+use Rattle.std.specs.Prelude.{◌≡◌, ℕ, ◌+◌, ◌<◌, List, length, drop, true, false, Option, Some}
 use Rattle.fsrm_model.specs.values.Limits.{longest_script}
 use Rattle.fsrm_model.specs.declared.row.Capacity.{Capacity}
 use Rattle.fsrm_model.specs.declared.row.Rows.{Rows}
@@ -47,6 +47,10 @@ pub record IsQuiet {O : Type 0} (M : Members O) (old new : O) : Type 0 where
 abbrev pub HoldsNone : Parts → Type 0
 HoldsNone parts = (size : Capacity) (rows : Rows) → state_of parts ≡ Holds size rows → ⊥
 
+-- they hold rows
+abbrev pub HoldsSome : Parts → Type 0
+HoldsSome parts = (size : Capacity) × (rows : Rows) × (state_of parts ≡ Holds size rows)
+
 -- How a run that opens a store tells what it finds: that there is none, or the first damage, exactly where the parts have this
 -- state, unless the disk or memory fails.
 abbrev pub TellsStore : Parts → Status → Type 0
@@ -56,7 +60,7 @@ TellsStore parts DiskFault = Unit {0}
 TellsStore parts NoMemory = Unit {0}
 TellsStore parts Usage = ⊥
 TellsStore parts AlreadyStore = ⊥
-TellsStore parts other = (size : Capacity) × (rows : Rows) × (state_of parts ≡ Holds size rows)
+TellsStore parts other = HoldsSome parts
 
 -- How a run that makes a store tells that there is one.
 abbrev pub TellsNew : Parts → Status → Type 0
@@ -66,39 +70,31 @@ TellsNew parts DiskFault = Unit {0}
 TellsNew parts NoMemory = Unit {0}
 TellsNew parts other = ⊥
 
+-- `init` makes a store, and every other mode opens one.
 abbrev pub Tells : Mode → Parts → Status → Type 0
 Tells (Init size) parts status = TellsNew parts status
-Tells (Replay group) parts status = TellsStore parts status
-Tells Show parts status = TellsStore parts status
-Tells (Outbox since) parts status = TellsStore parts status
+Tells other parts status = TellsStore parts status
 
 -- the parts that a mode can do nothing with
 abbrev pub IsIdleOver : Mode → Parts → Type 0
 IsIdleOver (Init size) parts = has_store parts ≡ true
-IsIdleOver (Replay group) parts = HoldsNone parts
-IsIdleOver Show parts = HoldsNone parts
-IsIdleOver (Outbox since) parts = HoldsNone parts
+IsIdleOver other parts = HoldsNone parts
 
 -- and those with which it can do all, if no device fails
 abbrev pub IsReadyOver : Mode → Parts → Type 0
 IsReadyOver (Init size) parts = has_store parts ≡ false
-IsReadyOver (Replay group) parts = (size : Capacity) × (rows : Rows) × (state_of parts ≡ Holds size rows)
-IsReadyOver Show parts = (size : Capacity) × (rows : Rows) × (state_of parts ≡ Holds size rows)
-IsReadyOver (Outbox since) parts = (size : Capacity) × (rows : Rows) × (state_of parts ≡ Holds size rows)
+IsReadyOver other parts = HoldsSome parts
 
 -- a mode that takes nothing from the source
 abbrev pub ReadsNothing : Mode → Type 0
-ReadsNothing (Init size) = Unit {0}
 ReadsNothing (Replay group) = ⊥
-ReadsNothing Show = Unit {0}
-ReadsNothing (Outbox since) = Unit {0}
+ReadsNothing other = Unit {0}
 
 -- a mode that writes nothing to the disk
 abbrev pub WritesNothing : Mode → Type 0
-WritesNothing (Init size) = ⊥
-WritesNothing (Replay group) = ⊥
 WritesNothing Show = Unit {0}
 WritesNothing (Outbox since) = Unit {0}
+WritesNothing other = ⊥
 
 -- ---- the answers of each mode
 abbrev pub FitsInit : Status → Type 0
@@ -113,17 +109,17 @@ FitsReplay Usage = ⊥
 FitsReplay AlreadyStore = ⊥
 FitsReplay other = Unit {0}
 
-abbrev pub FitsShow : Status → Type 0
-FitsShow Done = Unit {0}
-FitsShow WriteFault = Unit {0}
-FitsShow DiskFault = Unit {0}
-FitsShow NoMemory = Unit {0}
-FitsShow NoStore = Unit {0}
-FitsShow (Damaged part place) = Unit {0}
-FitsShow other = ⊥
+-- those of a mode that reads no script
+abbrev pub FitsUnread : Status → Type 0
+FitsUnread Done = Unit {0}
+FitsUnread WriteFault = Unit {0}
+FitsUnread DiskFault = Unit {0}
+FitsUnread NoMemory = Unit {0}
+FitsUnread NoStore = Unit {0}
+FitsUnread (Damaged part place) = Unit {0}
+FitsUnread other = ⊥
 
 abbrev pub Fits : Mode → Status → Type 0
 Fits (Init size) status = FitsInit status
 Fits (Replay group) status = FitsReplay status
-Fits Show status = FitsShow status
-Fits (Outbox since) status = FitsShow status
+Fits other status = FitsUnread status

@@ -1,10 +1,14 @@
 pub mod Answers
 pub mod Bytes
 pub mod Ends
+pub mod Expiry
 pub mod Looks
+pub mod OwnTurns
 pub mod Pieces
 pub mod Places
 pub mod Promises
 pub mod Reading
 pub mod Statuses
+pub mod Ticks
 pub mod Views
+pub mod Working

@@ -11,7 +11,7 @@ use Rattle.fsrm_store.specs.Amortized.{bytes_since}
 use Rattle.fsrm_store.specs.Keeps.{HasTail}
 use Rattle.fsrm_store.specs.Recovery.{is_first_version, FewLooks}
 use Rattle.fsrm_session.specs.Spending.{Spends}
-use Rattle.fsrm_session.specs.Turns.{bytes_of, line_turns, script_turns, IsWithin}
+use Rattle.fsrm_session.specs.Turns.{bytes_of, line_turns, looks_of, script_turns, IsWithin, Turn}
 use Rattle.fsrm_session.specs.declared.session.Session.{Session}
 use Rattle.fsrm_modes.specs.Reading.{IsHeld, Place}
 use Rattle.fsrm_modes.specs.declared.status.Status.{Status}
@@ -65,3 +65,12 @@ pub record FewToShow (parts : Parts) (cost looks steps : ℕ) : Type 0 where
   pub opened : ℕ
   pub opening : FewLooks parts looks opened
   pub few : steps ≤ opened + cost
+
+-- Turns over the rows of these parts, and so many looks beside them: the looks for opening the rows, those, the ones of the turns, and,
+-- for each 1 MiB of records, of those that are there and those that the turns add, 2 for each node of the largest volume on the way.
+-- So many takes also the new image of a store of the first version.
+pub record FewForTurns (parts : Parts) (R : Rows) (turns : List Turn) (beside looks steps : ℕ) : Type 0 where
+  pub opened : ℕ
+  pub opening : FewLooks parts looks opened
+  pub few : (ruling : Part) (tail most : ℕ) → judged_parts parts ≡ Ok ruling → HasTail tail parts → IsWithin most R turns
+      → steps ≤ opened + (if is_first_version ruling parts then 2 * most else 0) + beside + looks_of R turns + (tail + bytes_of R turns) / 1048576 * (2 * most)

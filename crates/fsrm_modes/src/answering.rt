@@ -18,7 +18,7 @@ use tool_commands::{LineFault, is_skipped_line, read_line};
 const CARRIAGE_RETURN: &[u8] = b"\r";
 
 // A line without the CR that may end it.
-fn without_cr(line: &[u8]) -> &[u8]
+pub(crate) fn without_cr(line: &[u8]) -> &[u8]
     ensures { result.now ≡ without_cr line.now }
 {
     match line.strip_suffix(CARRIAGE_RETURN) {
@@ -29,7 +29,7 @@ fn without_cr(line: &[u8]) -> &[u8]
 
 // Takes a command that a line spells, and drops it. That is done here, so that other lines don't pay for it.
 #[inline(always)]
-fn take_read<O: Outside, L: Ledger>(
+pub(crate) fn take_read<O: Outside, L: Ledger>(
     session: &mut Session,
     outside: &mut O,
     number: u64,
@@ -45,6 +45,7 @@ fn take_read<O: Outside, L: Ledger>(
     ensures reads { O.read_faults outside.new ≡ O.read_faults outside.old }
     ensures left { O.left outside.new ≡ O.left outside.old }
     ensures size { OnOk result (session.new.store.engine.size ≡ session.old.store.engine.size) }
+    ensures rows { OnOk result (session.new.store.engine.rows ≡ (command_turn session.old.store.engine.size number command).after session.old.store.engine.rows) }
     ensures looks { Spends (members O.Source O.Sink O.Disk) (command_turn session.old.store.engine.size number command ∷ []) session.old outside.old steps.old steps.new (bytes_after result session.new) }
 {
     session.take(outside, number, &command, steps)

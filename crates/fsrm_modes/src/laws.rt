@@ -1,15 +1,21 @@
 //! What is proved of runs that follow one another.
 
-ghost use Rattle.std.specs.Prelude.{◌≡◌, ◌≤◌, ◌++◌, ℕ, List, length, Some};
+ghost use Rattle.std.specs.Prelude.{◌≡◌, ◌+◌, ◌≤◌, ◌++◌, ℕ, List, length, Some, true};
 ghost use Rattle.fsrm_model.specs.declared.row.Capacity.{Capacity};
 ghost use Rattle.fsrm_model.specs.declared.row.Rows.{Rows};
+ghost use Rattle.fsrm_model.specs.lines.Script.{fold_from, lines, text};
+ghost use Rattle.fsrm_model.specs.nodes.FileOps.{target};
+ghost use Rattle.fsrm_model.specs.nodes.Leads.{leads_to_folder};
 ghost use Rattle.fsrm_model.specs.store.Lasting.{lasting};
+ghost use Rattle.fsrm_model.specs.store.Valid.{is_moment, IsValid};
 ghost use Rattle.fsrm_outside.specs.Parts.{Parts};
+ghost use Rattle.fsrm_outside.specs.Runs.{CrashSafe};
 ghost use Rattle.fsrm_store.specs.States.{state_of};
 ghost use Rattle.fsrm_store.specs.States.State.{Holds};
 ghost use Rattle.fsrm_session.specs.Covers.{Covers};
 ghost use Rattle.fsrm_session.specs.Members.{members};
-ghost use Rattle.fsrm_session.specs.Turns.{rows_after, text_of, Turn};
+ghost use Rattle.fsrm_session.specs.Turns.{rows_after, script_turns, text_of, Turn};
+ghost use Rattle.fsrm_modes.specs.Expiry.{expire_turns, expired_files, ExpireAsk, Places};
 ghost use Rattle.fsrm_modes.specs.Promises.{Begins};
 
 use fsrm_outside::Outside;
@@ -21,4 +27,25 @@ pub fn a_later_run<O: Outside>()
         → (done : List Turn) × (rest : List Turn) × (turns ≡ done ++ rest) × (state_of parts ≡ Holds K (lasting (rows_after R done))) × (shown ≤ length (text_of R done)) }
     ensures begins { (K L : Capacity) (R Q : Rows) (turns : List Turn) (shown : ℕ) (before : List ℕ) (old : O) → (b : Begins (members O.Source O.Sink O.Disk) L Q before old) → Covers K R turns shown b.parts
         → (L ≡ K) × ((done : List Turn) × (rest : List Turn) × (turns ≡ done ++ rest) × (Q ≡ lasting (rows_after R done)) × (shown ≤ length (text_of R done))) }
+{}
+
+/// If each image of the disk at entry holds the rows that a run begins with, as after a run whose rows are all kept, then
+/// what the run shows is kept at each moment of it, and not only from its first call of the disk on.
+pub fn a_run_over_kept_rows<O: Outside>()
+    ensures { (K : Capacity) (R : Rows) (turns : List Turn) (start : ℕ) (old new : O) → ((kept : Parts) → O.images old start kept → state_of kept ≡ Holds K R) → CrashSafe (members O.Source O.Sink O.Disk) (Covers K R turns) start old new
+        → (t m : ℕ) (parts : Parts) → O.disk_clock new ≡ Some t → start ≤ m → m ≤ t → O.images new m parts
+        → (shown : ℕ) → length (O.shown_at new m) ≡ length (O.shown_at old start) + shown → Covers K R turns shown parts }
+{}
+
+/// Where the whole text of a script is shown, as after a run of `replay` that ended as `Done`, each image holds what is kept
+/// of the rows after all its lines. So the next run begins over such a disk.
+pub fn a_whole_run()
+    ensures { (K : Capacity) (R : Rows) (script : List ℕ) (shown : ℕ) (parts : Parts) → Covers K R (script_turns K script) shown parts → length (text K R script) ≤ shown → state_of parts ≡ Holds K (lasting (fold_from K R 1 (lines script))) }
+{}
+
+/// After a run that moves old files each of them stands in the folder, or the run's text tells that it is skipped or why its
+/// move was refused. No other node changes, and no name.
+pub fn old_files_are_moved()
+    ensures { (K : Capacity) (R : Rows) (ask : ExpireAsk) → IsValid K R → is_moment ask.expiry.moment ≡ true → leads_to_folder R.nodes ask.from ≡ true → leads_to_folder R.nodes ask.to ≡ true
+        → Places K R (rows_after R (expire_turns K R ask)) (target R.nodes ask.to) ask.expiry.moment (expired_files R ask) (text_of R (expire_turns K R ask)) }
 {}

@@ -2,11 +2,13 @@
 //!
 //! `init` makes a store. `replay` reads a script in pieces, and has a session take each line that ends in a piece; at the
 //! piece's end the replies are shown whose commands are kept. `show` writes a text over a store: the list of its quotas,
-//! or its outbox. The invariants of the loops (`specs/Reading`) speak of every way in which the script may go on, so
+//! or its outbox. `expire` moves old files, `tick` runs the report jobs that are due, and `work` runs a script of the program's own making, whose replies it sums
+//! up. The invariants of the loops (`specs/Reading`) speak of every way in which the script may go on, so
 //! `run`'s clauses hold for any bytes in any pieces. Of a line no more than 65,538 bytes are held.
 #![tactic(auto)]
 
 mod answering;
+mod expiring;
 mod init;
 pub mod laws;
 mod lines;
@@ -16,6 +18,8 @@ mod replay;
 mod script;
 mod show;
 mod status;
+mod ticking;
+mod work;
 
 pub use program::run;
 pub use status::Status;

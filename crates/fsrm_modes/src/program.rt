@@ -17,28 +17,39 @@ ghost use Rattle.fsrm_session.specs.Covers.{Covers};
 ghost use Rattle.fsrm_session.specs.Members.{members};
 ghost use Rattle.fsrm_session.specs.Turns.{script_turns};
 ghost use Rattle.fsrm_store.specs.Init.{IsNew, MakesStore};
+ghost use Rattle.made_script.specs.Lines.{made_lines};
 ghost use Rattle.notice_text.specs.Outbox.{outbox_text};
 ghost use Rattle.program_words.specs.Modes.{mode};
 ghost use Rattle.program_words.specs.declared.modes.Mode.{Mode};
-ghost use Rattle.program_words.specs.declared.modes.Mode.TheVariants.{Init, Replay, Show, Outbox};
+ghost use Rattle.program_words.specs.declared.modes.Mode.TheVariants.{Init, Replay, Show, Outbox, Work, Expire, Tick};
 ghost use Rattle.fsrm_modes.specs.Answers.{most_taken, Fits, IsDoneOrNoMemory, IsIdleOver, IsQuiet, IsReadyOver, IsTooLong, ReadsNothing, Tells, WritesNothing};
 ghost use Rattle.fsrm_modes.specs.Bytes.{TakenMost};
-ghost use Rattle.fsrm_modes.specs.Looks.{FewForScript, FewToShow};
+ghost use Rattle.fsrm_modes.specs.Expiry.{ask_of, expire_cost, expire_turns};
+ghost use Rattle.fsrm_modes.specs.Looks.{FewForScript, FewForTurns, FewToShow};
+ghost use Rattle.fsrm_modes.specs.OwnTurns.{TakesTurns};
 ghost use Rattle.fsrm_modes.specs.Promises.{Begins, Replays, Shows};
 ghost use Rattle.fsrm_modes.specs.Statuses.{KeepsDisk, KeepsReads, KeepsWrites};
+ghost use Rattle.fsrm_modes.specs.Ticks.{tick_turns};
 ghost use Rattle.fsrm_modes.specs.Views.{outbox_cost};
+ghost use Rattle.fsrm_modes.specs.Working.{work_turns, FewForLines, Works};
 
+use crate::expiring::{ExpireAsk, expire};
 use crate::init::init;
 use crate::replay::replay;
 use crate::show::{View, show};
 use crate::status::Status;
+use crate::ticking::tick;
+use crate::work::work;
+use file_jobs::Expiry;
 use fsrm_model::{Ledger, Steps};
 use fsrm_outside::Outside;
 use program_words::{Mode, WordsFault, read_words};
 use std::alloc::Global;
 
 /// Does what the words ask for: `init` makes a store, `replay` runs the script that the source has left over the store,
-/// `show` writes the list of its quotas, and `outbox` the latest notice of each action that ran at a moment or later.
+/// `show` writes the list of its quotas, `outbox` the latest notice of each action that ran at a moment or later, `work` runs
+/// a script that is made from a number, `expire` moves old files of a folder into another one, and `tick` runs the report
+/// jobs that are due.
 ///
 /// Clauses on what is read, shown and kept hold if the devices tell it.
 pub fn run<O: Outside, L: Ledger>(
@@ -60,8 +71,26 @@ pub fn run<O: Outside, L: Ledger>(
     // ---- `outbox`: two lines for each notice since a moment, with its text as the macros in it stand for what the store holds.
     ensures outbox { (since : ℕ) (K : Capacity) (R : Rows) (before : List ℕ) → mode (map string_bytes words.now) ≡ Some (Outbox since) → Begins (members O.Source O.Sink O.Disk) K R before outside.old
         → Shows (members O.Source O.Sink O.Disk) (outbox_text K R since) result before outside.new }
-    // Neither writes anything to the disk.
+    // Neither of the two writes anything to the disk.
     ensures unwritten { (asked : Mode) → mode (map string_bytes words.now) ≡ Some asked → WritesNothing asked → (O.reads outside.new ≡ O.reads outside.old) × Through O.disk_clock O.images Same outside.old outside.new }
+    // ---- `work`: the line that sums up the replies to a made script; at Done the store keeps the rows after the script.
+    ensures work { (seed count : ℕ) (K : Capacity) (R : Rows) (before : List ℕ) → mode (map string_bytes words.now) ≡ Some (Work seed count) → Begins (members O.Source O.Sink O.Disk) K R before outside.old
+        → Works (members O.Source O.Sink O.Disk) K R result seed count before outside.new }
+    // What a crash leaves is as of `replay`: the line is shown once all lines of the script are kept.
+    ensures work_crash { (seed count : ℕ) (K : Capacity) (R : Rows) (before : List ℕ) (start : ℕ) → mode (map string_bytes words.now) ≡ Some (Work seed count) → Begins (members O.Source O.Sink O.Disk) K R before outside.old
+        → O.disk_clock outside.old ≡ Some start → O.sink_clock outside.old ≡ Some start → CrashSafe (members O.Source O.Sink O.Disk) (Covers K R (work_turns K R seed count)) start outside.old outside.new }
+    // ---- `expire`: each file that expires over the rows at entry is told and moved, in the order of their numbers.
+    ensures expire { (from to : List (List ℕ)) (days : ℕ) (pattern : List ℕ) (moment : ℕ) (K : Capacity) (R : Rows) (before : List ℕ) → mode (map string_bytes words.now) ≡ Some (Expire from to days pattern moment) → Begins (members O.Source O.Sink O.Disk) K R before outside.old
+        → TakesTurns (members O.Source O.Sink O.Disk) K R result (expire_turns K R (ask_of from to days pattern moment)) before outside.new }
+    // What a crash leaves is as of `replay`: each move is kept before its reply is shown.
+    ensures expire_crash { (from to : List (List ℕ)) (days : ℕ) (pattern : List ℕ) (moment : ℕ) (K : Capacity) (R : Rows) (before : List ℕ) (start : ℕ) → mode (map string_bytes words.now) ≡ Some (Expire from to days pattern moment) → Begins (members O.Source O.Sink O.Disk) K R before outside.old
+        → O.disk_clock outside.old ≡ Some start → O.sink_clock outside.old ≡ Some start → CrashSafe (members O.Source O.Sink O.Disk) (Covers K R (expire_turns K R (ask_of from to days pattern moment))) start outside.old outside.new }
+    // ---- `tick`: the report jobs that are due over the rows at entry run, in the order of their numbers.
+    ensures tick { (moment : ℕ) (K : Capacity) (R : Rows) (before : List ℕ) → mode (map string_bytes words.now) ≡ Some (Tick moment) → Begins (members O.Source O.Sink O.Disk) K R before outside.old
+        → TakesTurns (members O.Source O.Sink O.Disk) K R result (tick_turns K R moment) before outside.new }
+    // What a crash leaves is as of `replay`: each run is kept before its reply is shown.
+    ensures tick_crash { (moment : ℕ) (K : Capacity) (R : Rows) (before : List ℕ) (start : ℕ) → mode (map string_bytes words.now) ≡ Some (Tick moment) → Begins (members O.Source O.Sink O.Disk) K R before outside.old
+        → O.disk_clock outside.old ≡ Some start → O.sink_clock outside.old ≡ Some start → CrashSafe (members O.Source O.Sink O.Disk) (Covers K R (tick_turns K R moment)) start outside.old outside.new }
     // ---- `init`: a new store of this size, and nothing is shown.
     ensures made { (size : Capacity) (parts : Parts) → mode (map string_bytes words.now) ≡ Some (Init size) → O.reads outside.old ≡ Some parts → result ≡ Status.Done → IsNew O.reads O.disk_clock O.images size outside.new }
     ensures making { (size : Capacity) (parts : Parts) → mode (map string_bytes words.now) ≡ Some (Init size) → O.reads outside.old ≡ Some parts → MakesStore O.disk_clock O.images size outside.old outside.new }
@@ -93,11 +122,15 @@ pub fn run<O: Outside, L: Ledger>(
     ensures complete { (asked : Mode) (parts : Parts) (script : List ℕ) → mode (map string_bytes words.now) ≡ Some asked → O.reads outside.old ≡ Some parts → O.left outside.old ≡ Some script → IsReadyOver asked parts → length script ≤ longest_script
         → (Rose (O.read_faults outside.old) (O.read_faults outside.new) → ⊥) → (Rose (O.write_faults outside.old) (O.write_faults outside.new) → ⊥) → (Rose (O.disk_faults outside.old) (O.disk_faults outside.new) → ⊥) → IsDoneOrNoMemory result }
     // ---- looks at nodes: those for opening the store, and those of the script's lines, of the list or of the notices; and for
-    // each 1 MiB of records 2 for each node. Other runs take none.
+    // each 1 MiB of records 2 for each node. `init` takes none, nor do words that ask for nothing.
     ensures looks { (group : ℕ) (K : Capacity) (R : Rows) (script before : List ℕ) → mode (map string_bytes words.now) ≡ Some (Replay group) → O.left outside.old ≡ Some script → (begins : Begins (members O.Source O.Sink O.Disk) K R before outside.old)
         → FewForScript begins.parts K R script steps.old steps.new }
     ensures show_looks { (K : Capacity) (R : Rows) (before : List ℕ) → mode (map string_bytes words.now) ≡ Some Show → (begins : Begins (members O.Source O.Sink O.Disk) K R before outside.old) → FewToShow begins.parts (list_cost R (Quotas None)) steps.old steps.new }
     ensures outbox_looks { (since : ℕ) (K : Capacity) (R : Rows) (before : List ℕ) → mode (map string_bytes words.now) ≡ Some (Outbox since) → (begins : Begins (members O.Source O.Sink O.Disk) K R before outside.old) → FewToShow begins.parts (outbox_cost R since) steps.old steps.new }
+    ensures work_looks { (seed count : ℕ) (K : Capacity) (R : Rows) (before : List ℕ) → mode (map string_bytes words.now) ≡ Some (Work seed count) → (begins : Begins (members O.Source O.Sink O.Disk) K R before outside.old) → FewForLines begins.parts K R (made_lines seed count) steps.old steps.new }
+    ensures expire_looks { (from to : List (List ℕ)) (days : ℕ) (pattern : List ℕ) (moment : ℕ) (K : Capacity) (R : Rows) (before : List ℕ) → mode (map string_bytes words.now) ≡ Some (Expire from to days pattern moment) → (begins : Begins (members O.Source O.Sink O.Disk) K R before outside.old)
+        → FewForTurns begins.parts R (expire_turns K R (ask_of from to days pattern moment)) (expire_cost K R (ask_of from to days pattern moment)) steps.old steps.new }
+    ensures tick_looks { (moment : ℕ) (K : Capacity) (R : Rows) (before : List ℕ) → mode (map string_bytes words.now) ≡ Some (Tick moment) → (begins : Begins (members O.Source O.Sink O.Disk) K R before outside.old) → FewForTurns begins.parts R (tick_turns K R moment) 0 steps.old steps.new }
     ensures init_looks { (size : Capacity) → mode (map string_bytes words.now) ≡ Some (Init size) → steps.new ≡ steps.old }
     ensures no_looks { mode (map string_bytes words.now) ≡ None → steps.new ≡ steps.old }
 {
@@ -106,6 +139,25 @@ pub fn run<O: Outside, L: Ledger>(
         Ok(Mode::Replay { group }) => replay(alloc, outside, group, steps),
         Ok(Mode::Show) => show(alloc, outside, View::Quotas, steps),
         Ok(Mode::Outbox { since }) => show(alloc, outside, View::Outbox { since }, steps),
+        Ok(Mode::Work { seed, count }) => work(alloc, outside, seed, count, steps),
+        Ok(
+            Mode::Expire {
+                from,
+                to,
+                days,
+                pattern,
+                moment,
+            },
+        ) => {
+            let expiry = Expiry {
+                days,
+                pattern,
+                moment,
+            };
+            let ask = ExpireAsk { from, to, expiry };
+            expire(alloc, outside, &ask, steps)
+        }
+        Ok(Mode::Tick { moment }) => tick(alloc, outside, moment, steps),
         Err(WordsFault::Usage) => Status::Usage,
         Err(WordsFault::NoMemory) => Status::NoMemory,
     }

@@ -96,7 +96,7 @@ fn take_script<O: Outside, L: Ledger>(
 }
 
 // Ends a run: what is held is made stable and what waits is shown, unless the disk or a write failed.
-fn conclude<O: Outside, L: Ledger>(
+pub(crate) fn conclude<O: Outside, L: Ledger>(
     session: &mut Session,
     outside: &mut O,
     ended: Result<(), Status>,
