@@ -27,6 +27,8 @@ mod migration;
 #[cfg(test)]
 mod opening;
 #[cfg(test)]
+mod own_commands;
+#[cfg(test)]
 mod run_faults;
 #[cfg(test)]
 mod run_stops;

@@ -5,7 +5,7 @@ ghost use Rattle.std.specs.Prelude.{◌≡◌, ◌<◌, ◌≤◌};
 
 use fsrm_model::{Steps, Weightless};
 use fsrm_modes::{Status, run};
-use fsrm_outside::{CallKind, MemoryOutside, Part};
+use fsrm_outside::{CallKind, MemoryOutside, Part, Pick};
 use std::marker::Brand;
 use std::sync::ledger::{Blank, Ledger};
 use std::test::Fail;
@@ -30,7 +30,8 @@ fn run_counted<B: Ledger>(
     run(rt.alloc(), words, outside, &mut steps)
 }
 
-fn run_words(rt: &HostRuntime, words: &[String], outside: &mut MemoryOutside) -> Status {
+/// Runs these words.
+pub fn run_words(rt: &HostRuntime, words: &[String], outside: &mut MemoryOutside) -> Status {
     run_counted::<Brand>(rt, words, outside, Blank::new(1))
 }
 
@@ -161,6 +162,22 @@ fn an_outbox_has_the_actions_that_ran_since(rt: HostRuntime) -> Result<(), Fail>
     assert!(rt; replay(&rt, &mut outside, "1")? == Status::Done);
     assert!(rt; has_outbox(&rt, &outside, "0", NOTICE)?);
     assert!(rt; has_outbox(&rt, &outside, "1000000001", &[])?);
+    Ok(())
+}
+
+// Whether a crash after the replies leaves the same outbox.
+fn keeps_outbox(rt: &HostRuntime, pick: Pick) -> Result<bool, Fail> {
+    let mut outside = over(rt, &new_store(rt)?, ACTING, [].as_slice())?;
+    let status = replay(rt, &mut outside, "1")?;
+    outside.crash(pick);
+    Ok(status == Status::Done && has_outbox(rt, &outside, "0", NOTICE)?)
+}
+
+#[test]
+fn a_crash_leaves_the_outbox(rt: HostRuntime) -> Result<(), Fail> {
+    for pick in [Pick::Lost, Pick::Taken, Pick::Fill(1), Pick::Fill(255)] {
+        assert!(rt; keeps_outbox(&rt, pick)?);
+    }
     Ok(())
 }
 

@@ -41,6 +41,8 @@ mod quotas;
 #[cfg(test)]
 mod regions;
 #[cfg(test)]
+mod reports;
+#[cfg(test)]
 mod rows;
 #[cfg(test)]
 mod rows_back;
