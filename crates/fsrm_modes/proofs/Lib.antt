@@ -20,6 +20,7 @@ pub mod Spending
 pub mod Spent
 pub mod Taking
 pub mod TickTurns
+pub mod TickedJobs
 pub mod Whole
 pub mod WholeRuns
 pub mod Words
