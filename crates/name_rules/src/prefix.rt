@@ -1,6 +1,6 @@
 //! The first characters of names as numbers, by which most names are told apart without being read.
 
-ghost use Rattle.std.specs.Prelude.{◌≡◌, ◌-◌, ◌*◌, ◌^◌, ◌<◌, ◌≤◌, nat_lt, min, if◌then◌else◌, drop, slice_index};
+ghost use Rattle.std.specs.Prelude.{◌≡◌, ◌-◌, ◌*◌, ◌^◌, ◌<◌, ◌≤◌, nat_lt, min, if◌then◌else◌, drop, length, slice_index};
 ghost use Rattle.std.specs.Str.{IsUtf8};
 ghost use Rattle.std.specs.Str.Iter.{chars_rest};
 ghost use Rattle.fsrm_model.specs.values.Name.{folded};
@@ -26,8 +26,21 @@ static LOWER: [u8; 128] = *b"\
 pub fn fold_prefix(name: &str) -> u64
     ensures { result ≡ prefix name.now }
 {
+    // Most names have eight bytes and more. Then their count is known when the program is made, and no loop is left.
+    let len = name.len();
+    if len >= 8 {
+        return prefix_of_bytes(name, 8);
+    }
+    prefix_of_bytes(name, len)
+}
+
+// The same, of so many bytes at the front: eight, or all if there are fewer.
+#[inline(always)]
+fn prefix_of_bytes(name: &str, count: usize) -> u64
+    requires { count ≡ min (length name.now) 8 }
+    ensures { result ≡ prefix name.now }
+{
     let bytes = name.as_bytes();
-    let count = bytes.len().min(8);
     let mut number = 0;
     for place in 0..count {
         let byte = bytes[place];

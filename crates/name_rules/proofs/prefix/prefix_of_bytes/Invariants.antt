@@ -1,7 +1,7 @@
 use Rattle.std.proofs.Common.{◌≡◌, ◌+◌, ◌-◌, ◌*◌, ◌^◌, ◌<◌, drop}
 use Rattle.fsrm_model.specs.values.Name.{folded}
 use Rattle.name_rules.specs.Prefix.{number_of, prefix}
-use Rattle.name_rules.proofs.prefix.fold_prefix.Given as goal
+use Rattle.name_rules.proofs.prefix.prefix_of_bytes.Given as goal
 
 abbrev pub invariant-loop-place : goal.invariant-loop-place
 invariant-loop-place l = record {
