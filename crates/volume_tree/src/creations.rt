@@ -124,8 +124,7 @@ impl Tree {
         ensures looks { steps.new ≤ steps.old + 21 }
     {
         let size = self.size;
-        let known = self.hints.may_know(folder, name);
-        let place = match search_new(&self.slots, &self.order, folder, name, known, steps) {
+        let place = match search_new(&self.slots, &self.order, folder, name, steps) {
             Ok(_) => return Err(TreeFault::AlreadyExists),
             Err(place) => place,
         };

@@ -224,13 +224,6 @@ impl Hints {
         None
     }
 
-    /// Whether there seems to be a file of this name. If not, one may be entered soon where this is read, mostly far from
-    /// what was read before: then there is nothing left to wait for.
-    #[inline]
-    pub fn may_know(&self, folder: u32, name: &str) -> bool {
-        self.file_at(hash(folder, name)) < MOST_NODES
-    }
-
     // Doubles the table of folders if they are more than three fourths of its buckets, and it has room. Each bucket is
     // parted in two by the next bit of the hash.
     fn fit_folders(&mut self)

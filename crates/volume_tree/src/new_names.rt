@@ -1,19 +1,18 @@
 //! The place of a name that no node has, sought first behind the names of its folder that begin as it does. Names are
 //! mostly given in their order: then one name is read, where a search reads some all the way.
 
-ghost use Rattle.std.specs.Prelude.{◌≡◌, ◌+◌, ◌<◌, ◌≤◌, IfOk, IfErr, IfSome, OnSome, None, true, length, slice_get};
+ghost use Rattle.std.specs.Prelude.{◌≡◌, ◌+◌, ◌-◌, ◌<◌, ◌≤◌, Contains, IfOk, IfErr, IfSome, OnSome, None, Some, true, length, slice_get};
 ghost use Rattle.fsrm_model.specs.values.Limits.{most_nodes};
 ghost use Rattle.fsrm_model.specs.nodes.Tree.{child_number};
 ghost use Rattle.block_list.specs.Places.{IsEntry, IsGap, index_of};
 ghost use Rattle.block_list.specs.Runs.{entries_of};
 ghost use Rattle.name_rules.specs.Prefix.{prefix as prefix_of};
 ghost use Rattle.volume_tree.specs.Entries.{AreOwn, IsPast, place_key};
-ghost use Rattle.volume_tree.specs.Kept.{AreSlots, IsBeyond, IsFloor, IsOrder, rows_of};
+ghost use Rattle.volume_tree.specs.Kept.{AreSlots, IsBeyond, IsFloor, IsNamed, IsOrder, rows_of};
 
-use crate::compare::place_key;
+use crate::compare::{is_before, place_key};
 use crate::entries::{Entry, Order};
 use crate::order::{entry_at, passed, search};
-use crate::vacancy::is_floor;
 use block_list::Place;
 use fsrm_model::{Ledger, Steps};
 use name_rules::fold_prefix;
@@ -82,20 +81,42 @@ fn is_past(order: &Order, key: u128, place: Place) -> bool
     }
 }
 
-// The place of a name that no child of a folder has, if the entry in front of it is the last one that begins so. It
+// The entry in front of a place, if that is known to be one and isn't at the beginning of a run.
+fn front(order: &Order, place: Place) -> Option<Entry>
+    ensures gap { IfSome result (λ entry. IsGap order.now.runs place) }
+    ensures within { IfSome result (λ entry. IsEntry order.now.runs (record place { offset = place.offset - 1 })) }
+    ensures index { IfSome result (λ entry. index_of order.now.runs place ≡ index_of order.now.runs (record place { offset = place.offset - 1 }) + 1) }
+    ensures number { IfSome result (λ entry. slice_get (entries_of order.now.runs) (index_of order.now.runs (record place { offset = place.offset - 1 })) ≡ Some entry.node) }
+    ensures listed { IfSome result (Contains order.now.entries) }
+    ensures some { IfSome result (λ entry. 0 < place.offset) }
+{
+    if place.offset == 0 || place.run >= order.run_count() {
+        return None;
+    }
+    let entries = order.run(place.run);
+    if place.offset > entries.len() {
+        return None;
+    }
+    Some(entries[place.offset - 1])
+}
+
+// The place of a folder's child of a name, or as an `Err` where one is to stand, if the entry in front of what comes
+// behind the name's first characters tells: it has the name, or is the last one that begins so and comes before it. It
 // takes a look if it finds the place, and one at most.
-fn vacant<L: Ledger>(
+fn told<L: Ledger>(
     slots: &NodeTable,
     order: &Order,
     folder: u32,
     name: &str,
     steps: &mut Steps<L>,
-) -> Option<Place>
+) -> Option<Result<Place, Place>>
     requires slots { AreSlots 0 slots.now.slots }
     requires order { IsOrder (rows_of slots.now.slots) (entries_of order.now.runs) }
     requires entries { AreOwn (rows_of slots.now.slots) order.now }
-    ensures floor { IfSome result (λ place. IsFloor (rows_of slots.now.slots) (entries_of order.now.runs) folder name.now (index_of order.now.runs place)) }
-    ensures beyond { IfSome result (λ place. IsBeyond (rows_of slots.now.slots) (entries_of order.now.runs) folder name.now (index_of order.now.runs place)) }
+    ensures entry { IfSome result (λ found. IfOk found (λ place. IsEntry order.now.runs place)) }
+    ensures named { IfSome result (λ found. IfOk found (λ place. IsNamed (rows_of slots.now.slots) (entries_of order.now.runs) folder name.now (index_of order.now.runs place))) }
+    ensures floor { IfSome result (λ found. IfErr found (λ place. IsFloor (rows_of slots.now.slots) (entries_of order.now.runs) folder name.now (index_of order.now.runs place))) }
+    ensures beyond { IfSome result (λ found. IfErr found (λ place. IsBeyond (rows_of slots.now.slots) (entries_of order.now.runs) folder name.now (index_of order.now.runs place))) }
     ensures some { OnSome result (steps.old + 1 ≤ steps.new) }
     ensures least { steps.old ≤ steps.new }
     ensures looks { steps.new ≤ steps.old + 1 }
@@ -103,26 +124,27 @@ fn vacant<L: Ledger>(
     let prefix = fold_prefix(name);
     let key = place_key(u64::from(folder), prefix);
     let place = behind(order, key);
-    if place.offset == 0 {
+    let entry = front(order, place)?;
+    let Some(before) = is_before(slots, entry, u64::from(folder), prefix, name, steps) else {
+        let offset = place.offset - 1;
+        return Some(Ok(Place {
+            run: place.run,
+            offset,
+        }));
+    };
+    if !before || !is_past(order, key, place) {
         return None;
     }
-    if !is_floor(slots, order, folder, prefix, name, place, steps) {
-        return None;
-    }
-    if !is_past(order, key, place) {
-        return None;
-    }
-    Some(place)
+    Some(Err(place))
 }
 
-/// The same as `order::search`, quicker for a name that is new and comes behind those that begin as it does. That isn't
-/// tried if the name seems to be known. It takes a look, and no more than 21.
+/// The same as `order::search`, quicker for a name that comes behind those that begin as it does. It takes a
+/// look, and no more than 21.
 pub fn search_new<L: Ledger>(
     slots: &NodeTable,
     order: &Order,
     folder: u32,
     name: &str,
-    known: bool,
     steps: &mut Steps<L>,
 ) -> Result<Place, Place>
     requires slots { AreSlots 0 slots.now.slots }
@@ -135,11 +157,11 @@ pub fn search_new<L: Ledger>(
     ensures some { steps.old + 1 ≤ steps.new }
     ensures looks { steps.new ≤ steps.old + 21 }
 {
-    if known || order.run_count() >= MANY_RUNS {
+    if order.run_count() >= MANY_RUNS {
         return search(slots, order, folder, name, steps);
     }
-    match vacant(slots, order, folder, name, steps) {
-        Some(place) => Err(place),
+    match told(slots, order, folder, name, steps) {
+        Some(found) => found,
         None => search(slots, order, folder, name, steps),
     }
 }
