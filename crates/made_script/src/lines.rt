@@ -56,7 +56,43 @@ fn put_path(
     put_number(line, number)
 }
 
-// Adds what is drawn that a line asks for, after its moment. Each text is put on its own: parts in an array take longer.
+// Adds what makes a file in a folder of the volume, or gives it another length.
+#[inline(always)]
+fn put_sized(line: &mut Vec<u8>, drawn: &Draws) -> Result<(), NoMemory>
+    requires some { 2 ≤ drawn.now.kind }
+    requires few { drawn.now.kind < 10 }
+    ensures { OnOk result (line.new.items ≡ line.old.items ++ drawn_words drawn.now) }
+{
+    if drawn.kind < 8 {
+        put_path(line, b" create D:\\f", drawn.folder, b"\\x", drawn.name)?;
+        put_text(line, b".dat ")?;
+        put_number(line, drawn.size)?;
+        return put_text(line, b" 1");
+    }
+    put_path(line, b" resize D:\\f", drawn.folder, b"\\x", drawn.name)?;
+    put_text(line, b".dat ")?;
+    put_number(line, drawn.size)
+}
+
+// Adds what moves a file, or a folder, to another folder of the volume.
+#[inline(always)]
+fn put_move(line: &mut Vec<u8>, drawn: &Draws) -> Result<(), NoMemory>
+    requires some { 11 ≤ drawn.now.kind }
+    requires few { drawn.now.kind < 13 }
+    ensures { OnOk result (line.new.items ≡ line.old.items ++ drawn_words drawn.now) }
+{
+    let (folder, name) = (drawn.other_folder, drawn.other_name);
+    if drawn.kind == 11 {
+        put_path(line, b" move D:\\f", drawn.folder, b"\\x", drawn.name)?;
+        put_path(line, b".dat D:\\f", folder, b"\\x", name)?;
+        return put_text(line, b".dat");
+    }
+    put_path(line, b" move D:\\f", drawn.folder, b"\\g", drawn.name)?;
+    put_path(line, b" D:\\f", folder, b"\\g", name)
+}
+
+// Adds what is drawn that a line asks for, after its moment. Each text is put on its own: parts in an array take
+// longer.
 fn put_drawn(line: &mut Vec<u8>, drawn: &Draws) -> Result<(), NoMemory>
     ensures { OnOk result (line.new.items ≡ line.old.items ++ drawn_words drawn.now) }
 {
@@ -70,42 +106,12 @@ fn put_drawn(line: &mut Vec<u8>, drawn: &Draws) -> Result<(), NoMemory>
             put_number(line, drawn.folder)?;
             put_text(line, b" /Limit:2mb")
         }
-        2..=7 => {
-            put_path(line, b" create D:\\f", drawn.folder, b"\\x", drawn.name)?;
-            put_text(line, b".dat ")?;
-            put_number(line, drawn.size)?;
-            put_text(line, b" 1")
-        }
-        8 | 9 => {
-            put_path(line, b" resize D:\\f", drawn.folder, b"\\x", drawn.name)?;
-            put_text(line, b".dat ")?;
-            put_number(line, drawn.size)
-        }
+        2..=9 => put_sized(line, drawn),
         10 => {
             put_path(line, b" touch D:\\f", drawn.folder, b"\\x", drawn.name)?;
             put_text(line, b".dat")
         }
-        11 => {
-            put_path(line, b" move D:\\f", drawn.folder, b"\\x", drawn.name)?;
-            put_path(
-                line,
-                b".dat D:\\f",
-                drawn.other_folder,
-                b"\\x",
-                drawn.other_name,
-            )?;
-            put_text(line, b".dat")
-        }
-        12 => {
-            put_path(line, b" move D:\\f", drawn.folder, b"\\g", drawn.name)?;
-            put_path(
-                line,
-                b" D:\\f",
-                drawn.other_folder,
-                b"\\g",
-                drawn.other_name,
-            )
-        }
+        11 | 12 => put_move(line, drawn),
         13 => {
             put_path(line, b" remove D:\\f", drawn.folder, b"\\x", drawn.name)?;
             put_text(line, b".dat")
