@@ -1,10 +1,10 @@
 -- Whole runs over a store.
-use Rattle.std.proofs.Common.{◌≡◌, ◌≢◌, ⊎_elim, ℕ, ◌+◌, ◌-◌, ◌≤◌, Some, List, [], ◌++◌, length, drop, refl, sym, ◌∙◌, ap, subst, arith, append_assoc, length-append}
-use Rattle.std.specs.Prelude.{◌⊎◌, Result, Ok, Err, OnOk, IfErr, IsErrOf, MatchResult}
+use Rattle.std.proofs.Common.{◌≡◌, ◌≢◌, ℕ, ◌+◌, ◌-◌, ◌≤◌, Some, List, [], ◌++◌, length, drop, refl, sym, ◌∙◌, ap, subst, arith, append_assoc, length-append}
+use Rattle.std.specs.Prelude.{Result, Ok, Err, OnOk, IfErr, IsErrOf, MatchResult}
 use Rattle.std.proofs.lemmas.List.{append-nil, length-drop}
 use Rattle.fsrm_model.specs.declared.row.Capacity.{Capacity}
 use Rattle.fsrm_model.specs.declared.row.Rows.{Rows}
-use Rattle.fsrm_model.specs.lines.Script.{lines, spelled_lines, text, text_from, AreLines}
+use Rattle.fsrm_model.specs.lines.Script.{lines, spelled_lines}
 use Rattle.fsrm_model.specs.store.Lasting.{lasting}
 use Rattle.fsrm_model.specs.values.Limits.{longest_script}
 use Rattle.fsrm_outside.specs.Causes.{Rose}
@@ -13,20 +13,18 @@ use Rattle.fsrm_outside.specs.Shown.{IsFront}
 use Rattle.fsrm_outside.proofs.EachMoments.{then_moments}
 use Rattle.fsrm_outside.proofs.OutsideLaws.{Laws}
 use Rattle.fsrm_store.proofs.Told.{standing_told}
-use Rattle.fsrm_store.specs.States.{state_of}
 use Rattle.fsrm_store.specs.States.State.{Holds}
 use Rattle.fsrm_session.specs.Counts.{Counts, StopCounts}
 use Rattle.fsrm_session.specs.Turns.{Turn, line_turns, rows_after, script_turns, text_of}
-use Rattle.fsrm_session.specs.Underway.{Breaks, Calms, Goes, Left, Safe, ShowsSome, Stopped, Underway}
+use Rattle.fsrm_session.specs.Underway.{Breaks, Calms, Left, Safe, ShowsSome, Stopped, Underway}
 use Rattle.fsrm_session.specs.declared.session.Session.{Session}
 use Rattle.fsrm_session.specs.declared.stop.Stop.{Stop}
 use Rattle.fsrm_session.specs.declared.stop.Stop.TheVariants as stops
-use Rattle.fsrm_session.proofs.Going.{all_on_disk, safe_on, shows_still, stopped_more}
-use Rattle.fsrm_modes.proofs.ScriptTurns.{rows_after-script, script_turns-begin, text_of-lines, text_of-script}
+use Rattle.fsrm_session.proofs.Going.{all_on_disk, safe_on, shows_still}
+use Rattle.fsrm_modes.proofs.ScriptTurns.{script_turns-begin}
 use Rattle.fsrm_session.proofs.Texts.{front_same, front_then, text_front}
-use Rattle.fsrm_modes.specs.Answers.{IsTooLong, OnReadStop}
-use Rattle.fsrm_modes.specs.Ends.{CutAt, Ended, EndedBy, Outcome, TakesScript, Took}
-use Rattle.fsrm_modes.specs.Reading.{EndsBy, IsCut, IsFailed, IsRead, IsTooMuch, ReadTo}
+use Rattle.fsrm_modes.specs.Ends.{CutAt, EndedBy, Outcome, TakesScript, Took}
+use Rattle.fsrm_modes.specs.Reading.{IsCut, IsTooMuch, ReadTo}
 use Rattle.fsrm_modes.specs.Statuses.{CloseCounts, IsReadEnd, IsSettled, SettleCounts, of_stop}
 use Rattle.fsrm_modes.specs.declared.status.Status.{Status}
 use Rattle.fsrm_modes.specs.declared.status.Status.TheVariants.{Done, Usage, ReadFault, WriteFault, DiskFault, TooLong, Damaged, NoMemory, NoStore, AlreadyStore}
@@ -176,16 +174,16 @@ of_err (Err y) e Q is q = let same : y ≡ e = cc in subst Q same q
 
 -- ---- a script is read
 
-taken_cut : {O : Type 0} {M : Members O} (status : Status) (K : Capacity) (R : Rows) (script left before : List ℕ) (b c : Session) (old mid new : O) → Laws M → Safe M K R [] before old mid → Underway M K R [] [] before b mid
-    → (cut : IsCut M K script left b c mid new) → (status ≡ ReadFault → M.left new ≡ Some cut.rest) → (status ≡ TooLong → length (spelled_lines cut.ended ++ cut.next) ≡ longest_script)
+taken_cut : {O : Type 0} {M : Members O} (status : Status) (K : Capacity) (R : Rows) (script left before : List ℕ) (b c : Session) (old new : O) → Underway M K R [] [] before b old
+    → (cut : IsCut M K script left b c old new) → (status ≡ ReadFault → M.left new ≡ Some cut.rest) → (status ≡ TooLong → length (spelled_lines cut.ended ++ cut.next) ≡ longest_script)
     → Left M K R (script_turns K script) before c new × Safe M K R (script_turns K script) before old new × CutAt M K R status script before c new
-taken_cut status K R script left before b c old mid new laws s u cut kept full =
+taken_cut status K R script left before b c old new u cut kept full =
     let done = line_turns K 1 cut.ended in
     let rest = line_turns K (1 + length cut.ended) (lines (cut.next ++ cut.rest)) in
     let are : script_turns K script ≡ done ++ rest = script_turns-begin K cut.ended script (cut.next ++ cut.rest) cut.each (cut.script_is ∙ append_assoc (spelled_lines cut.ended) cut.next cut.rest) in
     let w = cut.goes.goes K R [] before u in (
       record { done = done; rest = rest; are = are; words = text_of R done; here = w.0 },
-      left_safe K R (script_turns K script) done rest before old new are (then_moments laws (safe_on K R [] done before s) w.1),
+      left_safe K R (script_turns K script) done rest before old new are w.1,
       record { ended = cut.ended; next = cut.next; rest = cut.rest; each = cut.each; no_end = cut.no_end; script_is = cut.script_is; left_is = kept; full = full; here = w.0 },
     )
 
@@ -193,50 +191,26 @@ full_cut : {O : Type 0} {M : Members O} (K : Capacity) (script : List ℕ) (b c 
 full_cut K script b c mid new h =
     omega (arith, ap length h.cut.script_is, length-append (spelled_lines h.cut.ended ++ h.cut.next) h.cut.rest, ap length h.rest_is, length-drop longest_script script, h.longer)
 
-by_read : {O T : Type 0} {M : Members O} (r : Result T Status) (K : Capacity) (R : Rows) (script before : List ℕ) (b c : Session) (old mid new : O) → Laws M → Safe M K R [] before old mid → ReadTo M K r script b c mid new → Underway M K R [] [] before b mid
-    → TakesScript M K R r script before c old new
-by_read (Ok x) K R script before b c old mid new laws s read u =
-    let w = read.goes.goes K R [] before u in
-    record { took = record { ended_is = w.0; so_far = then_moments laws (safe_on K R [] (script_turns K script) before s) w.1 }; at_end = read.at_end; short = read.short; too_long = tt; cut = tt }
-by_read (Err ReadFault) K R script before b c old mid new laws s read u =
-    let w = taken_cut ReadFault K R script read.left before b c old mid new laws s u read.cut (λ e. read.cut.left_is ∙ ap (λ (l : List ℕ). Some l) (sym read.none_lost)) (λ e. absurd (cc)) in
+pub read_takes : {O T : Type 0} {M : Members O} (r : Result T Status) (K : Capacity) (R : Rows) (script before : List ℕ) (b c : Session) (old new : O) → ReadTo M K r script b c old new → Underway M K R [] [] before b old → TakesScript M K R r script before c old new
+read_takes (Ok x) K R script before b c old new read u =
+    let w = read.goes.goes K R [] before u in record { took = record { ended_is = w.0; so_far = w.1 }; at_end = read.at_end; short = read.short; too_long = tt; cut = tt }
+read_takes (Err ReadFault) K R script before b c old new read u =
+    let w = taken_cut ReadFault K R script read.left before b c old new u read.cut (λ e. read.cut.left_is ∙ ap (λ (l : List ℕ). Some l) (sym read.none_lost)) (λ e. absurd (cc)) in
     record { took = record { ended_is = w.0; so_far = w.1 }; at_end = tt; short = tt; too_long = λ e. absurd (cc); cut = w.2 }
-by_read (Err TooLong) K R script before b c old mid new laws s read u =
-    let w = taken_cut TooLong K R script (drop (longest_script + 1) script) before b c old mid new laws s u read.cut (λ e. absurd (cc)) (λ e. full_cut K script b c mid new read) in
+read_takes (Err TooLong) K R script before b c old new read u =
+    let w = taken_cut TooLong K R script (drop (longest_script + 1) script) before b c old new u read.cut (λ e. absurd (cc)) (λ e. full_cut K script b c old new read) in
     record { took = record { ended_is = w.0; so_far = w.1 }; at_end = tt; short = tt; too_long = λ e. record { longer = read.longer; taken = read.cut.left_is }; cut = w.2 }
-by_read (Err WriteFault) K R script before b c old mid new laws s read u =
-    let w = read.stops K R [] before u in
-    record { took = record { ended_is = w.0; so_far = then_moments laws (safe_on K R [] (script_turns K script) before s) w.1 }; at_end = tt; short = tt; too_long = λ e. absurd (cc); cut = tt }
-by_read (Err DiskFault) K R script before b c old mid new laws s read u =
-    let w = read.stops K R [] before u in
-    record { took = record { ended_is = w.0; so_far = then_moments laws (safe_on K R [] (script_turns K script) before s) w.1 }; at_end = tt; short = tt; too_long = λ e. absurd (cc); cut = tt }
-by_read (Err NoMemory) K R script before b c old mid new laws s read u =
-    let w = read.stops K R [] before u in
-    record { took = record { ended_is = w.0; so_far = then_moments laws (safe_on K R [] (script_turns K script) before s) w.1 }; at_end = tt; short = tt; too_long = λ e. absurd (cc); cut = tt }
-by_read (Err Done) K R script before b c old mid new laws s read u = absurd read
-by_read (Err Usage) K R script before b c old mid new laws s read u = absurd read
-by_read (Err (Damaged part place)) K R script before b c old mid new laws s read u = absurd read
-by_read (Err NoStore) K R script before b c old mid new laws s read u = absurd read
-by_read (Err AlreadyStore) K R script before b c old mid new laws s read u = absurd read
-
-pub read_takes : {O T : Type 0} {M : Members O} (r : Result T Status) (K : Capacity) (R : Rows) (script before : List ℕ) (a b c : Session) (old mid new : O) → Laws M → Calms M a b old mid → ReadTo M b.store.engine.size r script b c mid new → Underway M K R [] [] before a old
-    → TakesScript M K R r script before c old new
-read_takes {M = M} r K R script before a b c old mid new laws calms read u =
-    let v = calms.calms K R [] [] before u in
-    by_read r K R script before b c old mid new laws v.1 (subst (λ (k : Capacity). ReadTo M k r script b c mid new) v.0.size read) v.0
-
--- nothing was read of it
-pub begin_takes : {O T : Type 0} {M : Members O} (stop : Stop) (status : Status) (K : Capacity) (R : Rows) (script before : List ℕ) (a b : Session) (old new : O) → Breaks M stop a b old new → status ≡ of_stop stop → Underway M K R [] [] before a old
-    → TakesScript M K R (err_of T status) script before b old new
-begin_takes {T = T} {M = M} stop status K R script before a b old new breaks is u =
-    let v = breaks.breaks K R [] [] before u in
-    subst (λ (s : Status). TakesScript M K R (err_of T s) script before b old new) (sym is)
-    (go stop (stopped_more M stop K R [] (script_turns K script) before b new v.0) (safe_on K R [] (script_turns K script) before v.1))
-  where
-    go : (stop : Stop) → Stopped M stop K R (script_turns K script) before b new → Safe M K R (script_turns K script) before old new → TakesScript M K R (err_of T (of_stop stop)) script before b old new
-    go stops.WriteFault s safe = record { took = record { ended_is = s; so_far = safe }; at_end = tt; short = tt; too_long = λ e. absurd (cc); cut = tt }
-    go stops.DiskFault s safe = record { took = record { ended_is = s; so_far = safe }; at_end = tt; short = tt; too_long = λ e. absurd (cc); cut = tt }
-    go stops.NoMemory s safe = record { took = record { ended_is = s; so_far = safe }; at_end = tt; short = tt; too_long = λ e. absurd (cc); cut = tt }
+read_takes (Err WriteFault) K R script before b c old new read u =
+    let w = read.stops K R [] before u in record { took = record { ended_is = w.0; so_far = w.1 }; at_end = tt; short = tt; too_long = λ e. absurd (cc); cut = tt }
+read_takes (Err DiskFault) K R script before b c old new read u =
+    let w = read.stops K R [] before u in record { took = record { ended_is = w.0; so_far = w.1 }; at_end = tt; short = tt; too_long = λ e. absurd (cc); cut = tt }
+read_takes (Err NoMemory) K R script before b c old new read u =
+    let w = read.stops K R [] before u in record { took = record { ended_is = w.0; so_far = w.1 }; at_end = tt; short = tt; too_long = λ e. absurd (cc); cut = tt }
+read_takes (Err Done) K R script before b c old new read u = absurd read
+read_takes (Err Usage) K R script before b c old new read u = absurd read
+read_takes (Err (Damaged part place)) K R script before b c old new read u = absurd read
+read_takes (Err NoStore) K R script before b c old new read u = absurd read
+read_takes (Err AlreadyStore) K R script before b c old new read u = absurd read
 
 -- ---- how turns that were taken ended
 pub took_ok : {O T : Type 0} {M : Members O} (r : Result T Status) (x : T) (K : Capacity) (R : Rows) (turns : List Turn) (before : List ℕ) (session : Session) (start now : O) → r ≡ Ok x → Took M r K R turns before session start now → Took M (ok_of T x) K R turns before session start now

@@ -4,6 +4,7 @@ pub mod Cutting
 pub mod Endings
 pub mod Ends
 pub mod Feeding
+pub mod LineEnds
 pub mod MostTaken
 pub mod Outcomes
 pub mod Owed
@@ -18,6 +19,7 @@ pub mod Serving
 pub mod Showing
 pub mod Spending
 pub mod Spent
+pub mod TaskRuns
 pub mod Taking
 pub mod TickTurns
 pub mod TickedJobs

@@ -26,7 +26,8 @@ use Rattle.fsrm_modes.specs.Expiry.{ask_of, expire_cost, expire_turns}
 use Rattle.fsrm_modes.specs.Looks.{FewForScript, FewForTurns, FewToShow}
 use Rattle.fsrm_modes.specs.OwnTurns.{TakesTurns}
 use Rattle.fsrm_modes.specs.Promises.{Begins, Replays, Shows}
-use Rattle.fsrm_modes.specs.Statuses.{KeepsDisk, KeepsReads, KeepsWrites}
+use Rattle.fsrm_modes.specs.Statuses.{KeepsDisk, KeepsReads, KeepsWrites, RunCounts}
+use Rattle.fsrm_modes.specs.Tasks.{EndsScript}
 use Rattle.fsrm_modes.specs.Ticks.{tick_turns}
 use Rattle.fsrm_modes.specs.Views.{outbox_cost, view_cost, view_text}
 use Rattle.fsrm_modes.specs.Working.{work_turns, FewForLines, Works}
@@ -44,18 +45,14 @@ pub record OwesInit {O : Type 0} (M : Members O) (size : Capacity) (status : Sta
   pub looks : now ≡ was
 
 pub record OwesReplay {O : Type 0} (M : Members O) (status : Status) (old new : O) (was now : ℕ) : Type 0 where
-  pub runs : (K : Capacity) (R : Rows) (script before : List ℕ) → M.left old ≡ Some script → Begins M K R before old → Replays M K R status script before old new
+  pub runs : (K : Capacity) (R : Rows) (script before : List ℕ) → M.left old ≡ Some script → Begins M K R before old → TakesTurns M K R status (script_turns K script) before new
+  pub ends : (K : Capacity) (R : Rows) (script before : List ℕ) → M.left old ≡ Some script → Begins M K R before old → EndsScript M K R status script before old new
   pub crash : (K : Capacity) (R : Rows) (script before : List ℕ) (start : ℕ) → M.left old ≡ Some script → Begins M K R before old → M.disk_clock old ≡ Some start → M.sink_clock old ≡ Some start → CrashSafe M (Covers K R (script_turns K script)) start old new
-  pub looks : (K : Capacity) (R : Rows) (script before : List ℕ) → M.left old ≡ Some script → (begins : Begins M K R before old) → FewForScript begins.parts K R script was now
+  pub looks : (K : Capacity) (R : Rows) (script before : List ℕ) → M.left old ≡ Some script → (begins : Begins M K R before old) → FewForTurns begins.parts R (script_turns K script) 0 was now
 
 pub record OwesView {O : Type 0} (M : Members O) (view : View) (status : Status) (old new : O) (was now : ℕ) : Type 0 where
   pub shows : (K : Capacity) (R : Rows) (before : List ℕ) → Begins M K R before old → Shows M (view_text view K R) status before new
   pub looks : (K : Capacity) (R : Rows) (before : List ℕ) → (begins : Begins M K R before old) → FewToShow begins.parts (view_cost view R) was now
-
-pub record OwesWork {O : Type 0} (M : Members O) (seed count : ℕ) (status : Status) (old new : O) (was now : ℕ) : Type 0 where
-  pub runs : (K : Capacity) (R : Rows) (before : List ℕ) → Begins M K R before old → Works M K R status seed count before new
-  pub crash : (K : Capacity) (R : Rows) (before : List ℕ) (start : ℕ) → Begins M K R before old → M.disk_clock old ≡ Some start → M.sink_clock old ≡ Some start → CrashSafe M (Covers K R (work_turns K R seed count)) start old new
-  pub looks : (K : Capacity) (R : Rows) (before : List ℕ) → (begins : Begins M K R before old) → FewForLines begins.parts K R (made_lines seed count) was now
 
 -- for a mode that takes turns of its own, and so many looks beside theirs
 pub record OwesTurns {O : Type 0} (M : Members O) (turns : Capacity → Rows → List Turn) (beside : Capacity → Rows → ℕ) (status : Status) (old new : O) (was now : ℕ) : Type 0 where
@@ -68,7 +65,7 @@ Owes M (Init size) status old new was now = OwesInit M size status old new was n
 Owes M (Replay group) status old new was now = OwesReplay M status old new was now
 Owes M Show status old new was now = OwesView M views.Quotas status old new was now
 Owes M (Outbox since) status old new was now = OwesView M (views.Outbox since) status old new was now
-Owes M (Work seed count) status old new was now = OwesWork M seed count status old new was now
+Owes M (Work seed count) status old new was now = OwesTurns M (λ (K : Capacity) (R : Rows). work_turns K R seed count) (λ (K : Capacity) (R : Rows). 0) status old new was now
 Owes M (Expire from to days pattern moment) status old new was now =
     let ask = ask_of from to days pattern moment in OwesTurns M (λ (K : Capacity) (R : Rows). expire_turns K R ask) (λ (K : Capacity) (R : Rows). expire_cost K R ask) status old new was now
 Owes M (Tick moment) status old new was now = OwesTurns M (λ (K : Capacity) (R : Rows). tick_turns K R moment) (λ (K : Capacity) (R : Rows). 0) status old new was now
@@ -87,12 +84,7 @@ pub record Serves {O : Type 0} (M : Members O) (mine : Mode) (status : Status) (
 pub record Counted {O : Type 0} (M : Members O) (status : Status) (old new : O) : Type 0 where
   pub taken : TakenMost (M.left old) (M.left new) (most_taken status)
   pub long : (script : List ℕ) → M.left old ≡ Some script → status ≡ TooLong → IsTooLong script (M.left new)
-  pub read_fault : status ≡ ReadFault → Rose (M.read_faults old) (M.read_faults new)
-  pub write_fault : status ≡ WriteFault → Rose (M.write_faults old) (M.write_faults new)
-  pub disk_fault : status ≡ DiskFault → Rose (M.disk_faults old) (M.disk_faults new)
-  pub reads_kept : KeepsReads status (M.read_faults old) (M.read_faults new)
-  pub writes_kept : KeepsWrites status (M.write_faults old) (M.write_faults new)
-  pub disk_kept : KeepsDisk status (M.disk_faults old) (M.disk_faults new)
+  pub counts : RunCounts status (M.read_faults old) (M.read_faults new) (M.write_faults old) (M.write_faults new) (M.disk_faults old) (M.disk_faults new)
 
 -- what holds if the words ask for nothing
 pub record Unasked {O : Type 0} (words : Option Mode) (status : Status) (old new : O) (was now : ℕ) : Type 0 where

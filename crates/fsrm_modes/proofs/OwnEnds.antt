@@ -1,5 +1,5 @@
 -- What a run comes to that takes turns of its own.
-use Rattle.std.proofs.Common.{◌≡◌, ◌≢◌, ℕ, ◌+◌, ◌*◌, ◌≤◌, Some, List, [], length, refl, sym, ◌∙◌, ap, subst, arith}
+use Rattle.std.proofs.Common.{◌≡◌, ℕ, ◌+◌, ◌*◌, ◌≤◌, Some, List, [], length, refl, sym, ◌∙◌, ap, subst, arith}
 use Rattle.std.proofs.lemmas.List.{append-nil}
 use Rattle.std.specs.Prelude.{◌/◌, Err, IfErr, IsErrOf, MatchResult, Ok, OnOk, Result, if◌then◌else◌}
 use Rattle.fsrm_model.specs.declared.row.Capacity.{Capacity}
@@ -12,12 +12,12 @@ use Rattle.fsrm_journal.specs.Opened.{judged_parts}
 use Rattle.fsrm_session.specs.Counts.{Counts}
 use Rattle.fsrm_session.specs.Spending.{bytes_after, renewing, Spends}
 use Rattle.fsrm_session.specs.Turns.{Turn, bytes_of, looks_of, text_of, IsWithin}
-use Rattle.fsrm_session.specs.Underway.{Breaks, Calms, Goes, ShowsSome, Stops, Underway}
+use Rattle.fsrm_session.specs.Underway.{Breaks, Calms, Goes, Safe, ShowsSome, Stopped, Stops, Underway}
 use Rattle.fsrm_session.specs.declared.session.Session.{Session}
 use Rattle.fsrm_session.specs.declared.stop.Stop.{Stop}
 use Rattle.fsrm_session.specs.declared.stop.Stop.TheVariants as stops
-use Rattle.fsrm_session.proofs.Going.{calms_goes, calms_stops, safe_on, stopped_more}
-use Rattle.fsrm_session.proofs.Spending.{after_fault, allowed, no_image, within_now}
+use Rattle.fsrm_session.proofs.Going.{safe_on, stopped_more}
+use Rattle.fsrm_session.proofs.Spending.{allowed, spends_less, within_now}
 use Rattle.fsrm_store.specs.Amortized.{bytes_since, Amortized}
 use Rattle.fsrm_store.specs.Keeps.{HasTail}
 use Rattle.fsrm_store.specs.Recovery.{is_first_version, FewLooks}
@@ -31,11 +31,11 @@ use Rattle.fsrm_store.proofs.StateLaws.{same_ok}
 use Rattle.fsrm_store.proofs.TailLaws.{one_tail}
 use Rattle.fsrm_modes.specs.Ends.{Took}
 use Rattle.fsrm_modes.specs.Looks.{left_after, FewForTurns}
-use Rattle.fsrm_modes.specs.OwnTurns.{ended_by, TakesTurns, TookTurns}
+use Rattle.fsrm_modes.specs.OwnTurns.{ended_by, TakesTurns}
 use Rattle.fsrm_modes.specs.Promises.{Begins}
-use Rattle.fsrm_modes.specs.Statuses.{CloseCounts, IsReadEnd, IsSettled, of_store, ReadCounts, SettleCounts}
+use Rattle.fsrm_modes.specs.Statuses.{of_stop, of_store, IsOwnEnd, IsSettled, ReadCounts}
 use Rattle.fsrm_modes.specs.declared.status.Status.{Status}
-use Rattle.fsrm_modes.specs.declared.status.Status.TheVariants.{Done, Usage, ReadFault, WriteFault, DiskFault, TooLong, Damaged, NoMemory, NoStore, AlreadyStore}
+use Rattle.fsrm_modes.proofs.Ends.{err_of}
 use Rattle.fsrm_modes.proofs.Spending.{left_stop}
 use Rattle.fsrm_modes.proofs.Spent.{renews}
 
@@ -52,41 +52,40 @@ fault_takes {M = M} fault status K R turns before old new laws is ran b =
     go faults.DiskFault s = record { front = s; whole = λ e. absurd (cc); kept = λ e. absurd (cc) }
     go faults.NoMemory s = record { front = s; whole = λ e. absurd (cc); kept = λ e. absurd (cc) }
 
--- ---- it begins, and then takes them
-pub begin_took : {O T : Type 0} {M : Members O} (r : Result T Stop) (stop : Stop) (K : Capacity) (R : Rows) (turns : List Turn) (before : List ℕ) (a b : Session) (old new : O) → r ≡ Err stop → Breaks M stop a b old new → Underway M K R [] [] before a old → TookTurns M r K R turns before b old new
-begin_took {T = T} {M = M} r stop K R turns before a b old new is breaks u =
-    let v = breaks.breaks K R [] [] before u in
-    subst (λ (r : Result T Stop). TookTurns M r K R turns before b old new) (sym is) (stopped_more M stop K R [] turns before b new v.0, safe_on K R [] turns before v.1)
-
-pub turns_took : {O T : Type 0} {M : Members O} (r : Result T Stop) (turns : Capacity → Rows → List Turn) (K : Capacity) (R : Rows) (before : List ℕ) (a b c : Session) (old mid new : O) → Laws M → Calms M a b old mid
-    → MatchResult r (λ x. Goes M (turns b.store.engine.size b.store.engine.rows) b c mid new) (λ e. Stops M e (turns b.store.engine.size b.store.engine.rows) b c mid new)
-    → Underway M K R [] [] before a old → TookTurns M r K R (turns K R) before c old new
-turns_took {T = T} {M = M} r turns K R before a b c old mid new laws calms runs u =
-    let v = (calms.calms K R [] [] before u).0 in
-    subst (λ (S : Rows). TookTurns M r K R (turns K S) before c old new) v.rows
-    (subst (λ (J : Capacity). TookTurns M r K R (turns J b.store.engine.rows) before c old new) v.size (at r runs))
+-- ---- they are taken, or some first ones
+pub own_took : {O T : Type 0} {M : Members O} (r : Result T Stop) (ended : Result T Status) (turns : Capacity → Rows → List Turn) (K : Capacity) (R : Rows) (before : List ℕ) (a c : Session) (old new : O) → ended ≡ ended_by r
+    → MatchResult r (λ x. Goes M (turns a.store.engine.size a.store.engine.rows) a c old new) (λ e. Stops M e (turns a.store.engine.size a.store.engine.rows) a c old new)
+    → Underway M K R [] [] before a old → Took M ended K R (turns K R) before c old new
+own_took {T = T} {M = M} r ended turns K R before a c old new is runs u =
+    subst (λ (e : Result T Status). Took M e K R (turns K R) before c old new) (sym is)
+    (subst (λ (S : Rows). Took M (ended_by r) K R (turns K S) before c old new) u.rows
+    (subst (λ (J : Capacity). Took M (ended_by r) K R (turns J a.store.engine.rows) before c old new) u.size (at r runs)))
   where
     own : List Turn
-    own = turns b.store.engine.size b.store.engine.rows
+    own = turns a.store.engine.size a.store.engine.rows
 
-    at : (r : Result T Stop) → MatchResult r (λ x. Goes M own b c mid new) (λ e. Stops M e own b c mid new) → TookTurns M r K R own before c old new
-    at (Ok x) h = (calms_goes own a b c old mid new laws calms h).goes K R [] before u
-    at (Err e) h = (calms_stops e own a b c old mid new laws calms h).stops K R [] before u
+    at : (r : Result T Stop) → MatchResult r (λ x. Goes M own a c old new) (λ e. Stops M e own a c old new) → Took M (ended_by r) K R own before c old new
+    at (Ok x) h = let w = h.goes K R [] before u in record { ended_is = w.0; so_far = w.1 }
+    at (Err stops.WriteFault) h = let w = h.stops K R [] before u in record { ended_is = w.0; so_far = w.1 }
+    at (Err stops.DiskFault) h = let w = h.stops K R [] before u in record { ended_is = w.0; so_far = w.1 }
+    at (Err stops.NoMemory) h = let w = h.stops K R [] before u in record { ended_is = w.0; so_far = w.1 }
+
+-- they were not begun
+pub unbegun : {O : Type 0} {M : Members O} (T : Type 0) (stop : Stop) (K : Capacity) (R : Rows) (turns : List Turn) (before : List ℕ) (a b : Session) (old new : O) → Breaks M stop a b old new → Underway M K R [] [] before a old → Took M (err_of T (of_stop stop)) K R turns before b old new
+unbegun {M = M} T stop K R turns before a b old new breaks u =
+    let v = breaks.breaks K R [] [] before u in
+    go stop (stopped_more M stop K R [] turns before b new v.0) (safe_on K R [] turns before v.1)
+  where
+    go : (stop : Stop) → Stopped M stop K R turns before b new → Safe M K R turns before old new → Took M (err_of T (of_stop stop)) K R turns before b old new
+    go stops.WriteFault s safe = record { ended_is = s; so_far = safe }
+    go stops.DiskFault s safe = record { ended_is = s; so_far = safe }
+    go stops.NoMemory s safe = record { ended_is = s; so_far = safe }
 
 -- ---- how it is told
-pub end_took : {O T : Type 0} {M : Members O} (r : Result T Stop) (ended : Result T Status) (K : Capacity) (R : Rows) (turns : List Turn) (before : List ℕ) (session : Session) (start now : O) → ended ≡ ended_by r → TookTurns M r K R turns before session start now → Took M ended K R turns before session start now
-end_took {T = T} {M = M} r ended K R turns before session start now is took = subst (λ (e : Result T Status). Took M e K R turns before session start now) (sym is) (go r took)
+pub end_only : {T : Type 0} (r : Result T Stop) (ended : Result T Status) → ended ≡ ended_by r → IfErr ended IsOwnEnd
+end_only {T} r ended is = subst (λ (e : Result T Status). IfErr e IsOwnEnd) (sym is) (go r)
   where
-    go : (r : Result T Stop) → TookTurns M r K R turns before session start now → Took M (ended_by r) K R turns before session start now
-    go (Ok x) t = record { ended_is = t.0; so_far = t.1 }
-    go (Err stops.WriteFault) t = record { ended_is = t.0; so_far = t.1 }
-    go (Err stops.DiskFault) t = record { ended_is = t.0; so_far = t.1 }
-    go (Err stops.NoMemory) t = record { ended_is = t.0; so_far = t.1 }
-
-pub end_only : {T : Type 0} (r : Result T Stop) (ended : Result T Status) → ended ≡ ended_by r → IfErr ended IsReadEnd
-end_only {T} r ended is = subst (λ (e : Result T Status). IfErr e IsReadEnd) (sym is) (go r)
-  where
-    go : (r : Result T Stop) → IfErr (ended_by r) IsReadEnd
+    go : (r : Result T Stop) → IfErr (ended_by r) IsOwnEnd
     go (Ok x) = tt
     go (Err stops.WriteFault) = tt
     go (Err stops.DiskFault) = tt
@@ -110,37 +109,7 @@ end_counts {T} r ended a q w v d e is same c = subst (λ (x : Result T Status). 
     go (Err stops.DiskFault) c = (same, c.0, c.1)
     go (Err stops.NoMemory) c = (same, c.0, c.1)
 
-abbrev IsOwn : Status → Type 0
-IsOwn s = (s ≢ Usage) × (s ≢ AlreadyStore) × (s ≢ TooLong) × (s ≢ ReadFault)
-
-settled_own : (s : Status) (w v d e : ℕ) → SettleCounts s w v d e → IsOwn s
-settled_own Done w v d e c = (λ x. absurd (cc), λ x. absurd (cc), λ x. absurd (cc), λ x. absurd (cc))
-settled_own WriteFault w v d e c = (λ x. absurd (cc), λ x. absurd (cc), λ x. absurd (cc), λ x. absurd (cc))
-settled_own DiskFault w v d e c = (λ x. absurd (cc), λ x. absurd (cc), λ x. absurd (cc), λ x. absurd (cc))
-settled_own Usage w v d e c = absurd c
-settled_own ReadFault w v d e c = absurd c
-settled_own TooLong w v d e c = absurd c
-settled_own (Damaged part place) w v d e c = absurd c
-settled_own NoMemory w v d e c = absurd c
-settled_own NoStore w v d e c = absurd c
-settled_own AlreadyStore w v d e c = absurd c
-
-pub end_own : {T : Type 0} (r : Result T Stop) (ended : Result T Status) (status : Status) (w v d e : ℕ) → ended ≡ ended_by r → IfErr ended (λ s. status ≡ s) → MatchResult ended (λ x. SettleCounts status w v d e) (λ s. CloseCounts s w v d e) → (status ≢ Usage) × (status ≢ AlreadyStore) × (status ≢ TooLong) × (status ≢ ReadFault)
-end_own {T} r ended status w v d e is same counts = go r (subst (λ (x : Result T Status). IfErr x (λ s. status ≡ s)) is same) (subst (λ (x : Result T Status). MatchResult x (λ y. SettleCounts status w v d e) (λ s. CloseCounts s w v d e)) is counts)
-  where
-    go : (r : Result T Stop) → IfErr (ended_by r) (λ s. status ≡ s) → MatchResult (ended_by r) (λ y. SettleCounts status w v d e) (λ s. CloseCounts s w v d e) → IsOwn status
-    go (Ok x) same c = settled_own status w v d e c
-    go (Err stops.WriteFault) same c = subst IsOwn (sym same) (λ x. absurd (cc), λ x. absurd (cc), λ x. absurd (cc), λ x. absurd (cc))
-    go (Err stops.DiskFault) same c = subst IsOwn (sym same) (λ x. absurd (cc), λ x. absurd (cc), λ x. absurd (cc), λ x. absurd (cc))
-    go (Err stops.NoMemory) same c = subst IsOwn (sym same) (λ x. absurd (cc), λ x. absurd (cc), λ x. absurd (cc), λ x. absurd (cc))
-
 -- ---- the looks that it takes
--- it may not begin
-pub begin_spent : {T : Type 0} (r : Result T Stop) (stop : Stop) (now : Session) (looks steps bytes beside own more most : ℕ) → r ≡ Err stop → steps ≤ looks → bytes_after {T = T} (Err stop) now ≤ bytes
-    → Amortized most ((looks + beside) + own) steps (bytes + more) (bytes_after r now)
-begin_spent r stop now looks steps bytes beside own more most is few paid =
-    no_image most ((looks + beside) + own) steps (bytes + more) (bytes_after r now) (omega (arith, few)) (omega (arith, paid, after_fault r stop now is))
-
 -- it begins, and takes its turns, with so many looks beside them
 pub turns_spent : {O : Type 0} {M : Members O} (turns : Capacity → Rows → List Turn) (beside : Capacity → Rows → ℕ) (K : Capacity) (R : Rows) (before : List ℕ) (was mid : Session) (first half : O) (looks late steps left most : ℕ) → Calms M was mid first half → Underway M K R [] [] before was first
     → late ≤ (looks + renewing was.store) + beside mid.store.engine.size mid.store.engine.rows → bytes_since mid.store.journal ≤ bytes_since was.store.journal → Spends M (turns mid.store.engine.size mid.store.engine.rows) mid half late steps left → IsWithin most R (turns K R)
@@ -163,10 +132,8 @@ end_left : {T : Type 0} (r : Result T Stop) (session : Session) → left_after (
 end_left (Ok x) session = omega arith
 end_left {T} (Err stop) session = left_stop T T stop session
 
-pub end_spent : {T : Type 0} (r : Result T Stop) (ended : Result T Status) (session : Session) (most looks steps bytes : ℕ) → ended ≡ ended_by r → Amortized most looks steps bytes (bytes_after r session) → Amortized most looks steps bytes (left_after ended session)
-end_spent {T} r ended session most looks steps bytes is a =
-    allowed most most looks looks steps bytes bytes (bytes_after r session) (left_after ended session) (omega arith) (omega arith) (omega arith)
-    (omega (arith, ap (λ (e : Result T Status). left_after e session) is, end_left r session)) a
+pub own_spends : {O T : Type 0} {M : Members O} (r : Result T Stop) (ended : Result T Status) (turns : List Turn) (was now : Session) (old : O) (looks more steps : ℕ) → ended ≡ ended_by r → looks ≤ more → Spends M turns was old looks steps (bytes_after r now) → Spends M turns was old more steps (left_after ended now)
+own_spends {T = T} r ended turns was now old looks more steps is late p = spends_less turns was old looks more steps (bytes_after r now) (left_after ended now) late (omega (arith, ap (λ (e : Result T Status). left_after e now) is, end_left r now)) p
 
 -- the whole run: the store couldn't be opened
 pub fault_turns : (parts : Parts) (R : Rows) (turns : List Turn) (beside looks steps : ℕ) → FewLooks parts looks steps → FewForTurns parts R turns beside looks steps

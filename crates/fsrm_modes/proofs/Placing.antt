@@ -10,13 +10,14 @@ use Rattle.fsrm_base.proofs.Look.{found_key, row_of-change}
 use Rattle.fsrm_base.proofs.TestLaws.{clash, eq_is, eq_same, eq_test, is_or_not, le_is, neither}
 use Rattle.fsrm_model.specs.commands.Check.{◌when◌, first}
 use Rattle.fsrm_model.specs.commands.Entry.{path_length}
+use Rattle.fsrm_model.specs.commands.FileWork.{judged_name, reported}
 use Rattle.fsrm_model.specs.commands.Step.{decided, step, work, Stepped}
 use Rattle.fsrm_model.specs.commands.Work.{Work}
 use Rattle.fsrm_model.specs.declared.command.Command.{Command}
 use Rattle.fsrm_model.specs.declared.command.Deed.TheVariants.{File}
 use Rattle.fsrm_model.specs.declared.command.FileOp.TheVariants.{Move}
 use Rattle.fsrm_model.specs.declared.command.Outcome.{Outcome}
-use Rattle.fsrm_model.specs.declared.command.Outcome.TheVariants.{Refused}
+use Rattle.fsrm_model.specs.declared.command.Outcome.TheVariants.{Done, Refused}
 use Rattle.fsrm_model.specs.declared.command.Refusal.{Refusal}
 use Rattle.fsrm_model.specs.declared.command.Refusal.TheVariants.{ClockBack}
 use Rattle.fsrm_model.specs.declared.row.Capacity.{Capacity}
@@ -29,7 +30,7 @@ use Rattle.fsrm_model.specs.store.Valid.{is_moment, IsValid, IsVolume}
 use Rattle.fsrm_model.specs.texts.ActText.{act_lines}
 use Rattle.fsrm_model.specs.texts.Text.{reply}
 use Rattle.fsrm_model.proofs.commands.EachCommand.{step_valid}
-use Rattle.fsrm_model.proofs.commands.Ends.{effect_nodes, nodes_kept, refused_cases}
+use Rattle.fsrm_model.proofs.commands.Ends.{effect_nodes, nodes_kept, outcome_kept, refused_cases}
 use Rattle.fsrm_model.proofs.nodes.Resolves.{joined_path, same_paths}
 use Rattle.fsrm_model.proofs.nodes.Walks.{resolve_is, walk_complete}
 use Rattle.fsrm_model.proofs.valid.ValidLaws.{folder_has}
@@ -38,7 +39,8 @@ use Rattle.file_jobs.specs.Moves.{is_file, most_bytes, move_of, moved_path, AreF
 use Rattle.file_jobs.proofs.FindLaws.{are_files}
 use Rattle.file_jobs.proofs.MoveLaws.{file_found, file_has, legal_move, legal_moved, legal_path}
 use Rattle.file_jobs.proofs.StayLaws.{files_stay}
-use Rattle.fsrm_modes.specs.Expiry.{expire_turns, expired_files, ExpireAsk, files_turns, move_line, moving_turn, skipped_line, Places, SaysNot}
+use Rattle.fsrm_modes.specs.Expiry.{expire_turns, expired_files, ExpireAsk, files_turns, move_line, moving_turn, skipped_line, IsWholeLines, Places, SaysNot}
+use Rattle.fsrm_modes.proofs.LineEnds.{acts_whole, done_whole, move_whole, refused_whole, skipped_whole, whole_then}
 use Rattle.fsrm_modes.proofs.Moving.{chosen, moving_kinds}
 
 -- ---- paths
@@ -117,20 +119,21 @@ one_moved nodes node to row found = record {
 -- ---- one move
 -- it is done, or refused
 done_or_not : (K : Capacity) (R : Rows) (moment line : ℕ) (from to : List (List ℕ)) → let c : Command = record { moment = moment; deed = File (Move from to) } in
-    ((step K R c).rows.nodes ≡ plain R.nodes (Move from to) moment) ⊎ (((step K R c).rows.nodes ≡ R.nodes) × ((refusal : Refusal) × ((step K R c).outcome ≡ Refused refusal)))
+    (((step K R c).rows.nodes ≡ plain R.nodes (Move from to) moment) × ((passive : Option ℕ) × ((step K R c).outcome ≡ Done passive))) ⊎ (((step K R c).rows.nodes ≡ R.nodes) × ((refusal : Refusal) × ((step K R c).outcome ≡ Refused refusal)))
 done_or_not K R moment line from to = at (first ((ClockBack when nat_lt moment R.last_moment) ∷ w.checks))
   where
     w : Work
     w = work K R moment (File (Move from to))
 
-    at : (o : Option Refusal) → ((decided K R moment w o).rows.nodes ≡ plain R.nodes (Move from to) moment) ⊎ (((decided K R moment w o).rows.nodes ≡ R.nodes) × ((refusal : Refusal) × ((decided K R moment w o).outcome ≡ Refused refusal)))
+    at : (o : Option Refusal) → (((decided K R moment w o).rows.nodes ≡ plain R.nodes (Move from to) moment) × ((passive : Option ℕ) × ((decided K R moment w o).outcome ≡ Done passive))) ⊎ (((decided K R moment w o).rows.nodes ≡ R.nodes) × ((refusal : Refusal) × ((decided K R moment w o).outcome ≡ Refused refusal)))
     at (Some refusal) = inr (refused_cases K R moment w refusal (λ (s : Stepped). (s.rows.nodes ≡ R.nodes) × ((refusal : Refusal) × (s.outcome ≡ Refused refusal))) (refl, (refusal, refl)) (λ acts. (refl, (refusal, refl))) (λ screen j is judged. (refl, (refusal, refl))))
-    at None = inl (nodes_kept K R moment w ∙ effect_nodes R (Move from to) moment)
+    at None = inl (nodes_kept K R moment w ∙ effect_nodes R (Move from to) moment, (reported (judged_name R (Move from to)), outcome_kept K R moment w))
 
 -- the file stands in the folder, or the run says why it doesn't
 pub record OneTurn (K : Capacity) (R : Rows) (moment line node to : ℕ) (said : List ℕ) (S : Rows) : Type 0 where
   pub valid : IsValid K S
   pub ends : OneMoved R.nodes S.nodes node to ⊎ ((S.nodes ≡ R.nodes) × SaysNot K moment line said)
+  pub whole : IsWholeLines said
 
 placed_there : (K : Capacity) (R : Rows) (moment node to : ℕ) → IsValid K R → is_file R.nodes node ≡ true → is_folder R.nodes to ≡ true → plain R.nodes (Move (path_of R.nodes node) (moved_path R.nodes node to)) moment ≡ with_change number node (placed to (name_of R.nodes node)) R.nodes
 placed_there K R moment node to v file folder =
@@ -162,12 +165,13 @@ one_turn K R moment line node to v m file folder = at (nat_le (path_length (path
     taken : path_length from + path_length moved ≤ most_bytes → OneTurn K R moment line node to ((command_turn K line c).said R) ((command_turn K line c).after R)
     taken few =
         let s = step K R c in
+        let done = done_or_not K R moment line from moved in
         record {
           valid = step_valid K R c v (legal_move from moved moment (legal_path K nodes node v.volume (file_has nodes node file)) (legal_moved K nodes node to v.volume file (folder_has nodes to folder)) few m);
-          ends = elim (done_or_not K R moment line from moved) [
+          ends = elim done [
             | inl is ↦
                 let f = file_found nodes node file in
-                inl (subst (λ (ns : List NodeRow). OneMoved nodes ns node to) (sym (is ∙ placed_there K R moment node to v file folder)) (one_moved nodes node to f.row f.found))
+                inl (subst (λ (ns : List NodeRow). OneMoved nodes ns node to) (sym (is.0 ∙ placed_there K R moment node to v file folder)) (one_moved nodes node to f.row f.found))
             | inr stayed ↦ inr (
               stayed.0,
               record {
@@ -175,15 +179,22 @@ one_turn K R moment line node to v m file folder = at (nat_le (path_length (path
                 line = reply K s.rows moment line (Refused stayed.1.0);
                 after = act_lines s.rows s.acts;
                 text_is = ap (λ (o : Outcome). reply K s.rows moment line o ++ act_lines s.rows s.acts) stayed.1.1;
+                whole = inl refl;
                 line_is = inr (s.rows, (stayed.1.0, refl));
               },
             )
           ];
+          whole = whole_then (reply K s.rows moment line s.outcome) (act_lines s.rows s.acts)
+              (elim done [
+                | inl is ↦ subst (λ (o : Outcome). IsWholeLines (reply K s.rows moment line o)) (sym is.1.1) (done_whole K s.rows moment line is.1.0)
+                | inr stayed ↦ subst (λ (o : Outcome). IsWholeLines (reply K s.rows moment line o)) (sym stayed.1.1) (refused_whole K s.rows moment line stayed.1.0)
+              ])
+              (acts_whole s.rows s.acts);
         }
 
     at : (b : Bool) → nat_le (path_length from + path_length moved) most_bytes ≡ b → OneTurn K R moment line node to ((moving_turn K line moment (move_of nodes node to)).said R) ((moving_turn K line moment (move_of nodes node to)).after R)
     at true e = rw e (taken (le_is _ _ e))
-    at false e = rw e (record { valid = v; ends = inr (refl, record { before = []; line = skipped_line line; after = []; text_is = sym (append-nil (skipped_line line)); line_is = inl refl }) })
+    at false e = rw e (record { valid = v; ends = inr (refl, record { before = []; line = skipped_line line; after = []; text_is = sym (append-nil (skipped_line line)); whole = inl refl; line_is = inl refl }); whole = skipped_whole line })
 
 -- ---- files, one after another
 pub record AllMoved (K : Capacity) (R S : Rows) (to moment line : ℕ) (files text : List ℕ) : Type 0 where
@@ -193,8 +204,8 @@ pub record AllMoved (K : Capacity) (R S : Rows) (to moment line : ℕ) (files te
   pub stays : (n : ℕ) → parent_of R.nodes n ≡ to → parent_of S.nodes n ≡ to
 
 -- what is said within a longer text
-said_within : (K : Capacity) (moment number : ℕ) (first text last : List ℕ) → SaysNot K moment number text → SaysNot K moment number (first ++ (text ++ last))
-said_within K moment number first text last s = record {
+said_within : (K : Capacity) (moment number : ℕ) (first text last : List ℕ) → IsWholeLines first → SaysNot K moment number text → SaysNot K moment number (first ++ (text ++ last))
+said_within K moment number first text last whole s = record {
   before = first ++ s.before;
   line = s.line;
   after = s.after ++ last;
@@ -202,6 +213,7 @@ said_within K moment number first text last s = record {
       ap (λ (l : List ℕ). first ++ (l ++ last)) s.text_is
       ∙ ap (λ (l : List ℕ). first ++ l) (append_assoc s.before (s.line ++ s.after) last ∙ ap (λ (l : List ℕ). s.before ++ l) (append_assoc s.line s.after last))
       ∙ sym (append_assoc first s.before (s.line ++ (s.after ++ last)));
+  whole = whole_then first s.before whole s.whole;
   line_is = s.line_is;
 }
 
@@ -246,10 +258,10 @@ all_moved K R to moment line (node ∷ files) v m are folder =
     let more = text_of next (files_turns K next to moment (line + 1) files) in
     let told = move_line R.nodes line node in
     record {
-      in_folder = first_or_later K R end moment line node to files told said more
+      in_folder = first_or_later K R end moment line node to files told said more (whole_then told said (move_whole R.nodes line node) one.whole)
           (elim one.ends [
             | inl moved ↦ inl (rest.stays node moved.parent)
-            | inr stayed ↦ inr (said_within K moment line told said more stayed.1)
+            | inr stayed ↦ inr (said_within K moment line told said more (move_whole R.nodes line node) stayed.1)
           ])
           rest.in_folder;
       others = λ n apart. let parts = neither (node == n) (list_any (λ file. file == n) files) apart in rest.others n parts.1 ∙ one_other K R next moment line node to said one n parts.0;
@@ -257,18 +269,18 @@ all_moved K R to moment line (node ∷ files) v m are folder =
       stays = λ n is. rest.stays n (one_parent K R next moment line node to said one n is);
     }
   where
-    first_or_later : (K : Capacity) (R end : Rows) (moment line node to : ℕ) (files told said more : List ℕ) → (parent_of end.nodes node ≡ to) ⊎ SaysNot K moment line (told ++ (said ++ more)) → ((place : ℕ) → place < length files → (parent_of end.nodes (slice_index_or files place 0) ≡ to) ⊎ SaysNot K moment ((line + 1) + place) more)
+    first_or_later : (K : Capacity) (R end : Rows) (moment line node to : ℕ) (files told said more : List ℕ) → IsWholeLines (told ++ said) → (parent_of end.nodes node ≡ to) ⊎ SaysNot K moment line (told ++ (said ++ more)) → ((place : ℕ) → place < length files → (parent_of end.nodes (slice_index_or files place 0) ≡ to) ⊎ SaysNot K moment ((line + 1) + place) more)
         → (place : ℕ) → place < length (node ∷ files) → (parent_of end.nodes (slice_index_or (node ∷ files) place 0) ≡ to) ⊎ SaysNot K moment (line + place) (told ++ (said ++ more))
-    first_or_later K R end moment line node to files told said more here later zero low =
+    first_or_later K R end moment line node to files told said more lines here later zero low =
         let same : line ≡ line + 0 = omega arith in
         subst (λ (n : ℕ). (parent_of end.nodes node ≡ to) ⊎ SaysNot K moment n (told ++ (said ++ more))) same here
-    first_or_later K R end moment line node to files told said more here later (suc place) low = elim (later place (omega (arith, low))) [
+    first_or_later K R end moment line node to files told said more lines here later (suc place) low = elim (later place (omega (arith, low))) [
       | inl stands ↦ inl stands
       | inr stayed ↦
           let same : (line + 1) + place ≡ line + suc place = omega arith in
           let whole : (told ++ said) ++ (more ++ []) ≡ told ++ (said ++ more) = append_assoc told said (more ++ []) ∙ ap (λ (l : List ℕ). told ++ (said ++ l)) (append-nil more) in
           inr (subst (λ (n : ℕ). SaysNot K moment n (told ++ (said ++ more))) same
-          (subst (SaysNot K moment ((line + 1) + place)) whole (said_within K moment ((line + 1) + place) (told ++ said) more [] stayed)))
+          (subst (SaysNot K moment ((line + 1) + place)) whole (said_within K moment ((line + 1) + place) (told ++ said) more [] lines stayed)))
     ]
 
 -- ---- the run

@@ -1,50 +1,34 @@
 -- What a run of replay promises, from how its turns ended.
 use Rattle.std.proofs.Common.{◌≡◌, ◌≢◌, ℕ, ◌+◌, ◌≤◌, Some, List, [], ◌++◌, length, refl, sym, ◌∙◌, ap, subst, arith}
 use Rattle.std.specs.Prelude.{Option, Result, Ok, Err, OnOk, IfErr, MatchResult}
-use Rattle.std.proofs.lemmas.List.{append-nil}
 use Rattle.fsrm_model.specs.declared.row.Capacity.{Capacity}
 use Rattle.fsrm_model.specs.declared.row.Rows.{Rows}
-use Rattle.fsrm_model.specs.lines.Script.{fold_from, lines, text, text_from}
 use Rattle.fsrm_model.specs.store.Lasting.{lasting}
 use Rattle.fsrm_model.specs.values.Limits.{longest_script}
 use Rattle.fsrm_outside.specs.Causes.{Rose}
 use Rattle.fsrm_outside.specs.Changes.{Same, Through}
 use Rattle.fsrm_outside.specs.Members.{Members}
-use Rattle.fsrm_outside.specs.Parts.{Parts}
 use Rattle.fsrm_outside.proofs.OutsideLaws.{Laws}
-use Rattle.fsrm_store.specs.States.{state_of}
 use Rattle.fsrm_store.specs.States.State.{Holds}
-use Rattle.fsrm_store.specs.declared.fault.StoreFault.{StoreFault}
-use Rattle.fsrm_store.specs.declared.fault.StoreFault.TheVariants as faults
 use Rattle.fsrm_session.specs.Counts.{StopCounts}
 use Rattle.fsrm_session.specs.declared.stop.Stop.{Stop}
 use Rattle.fsrm_session.specs.declared.stop.Stop.TheVariants as stops
-use Rattle.fsrm_session.specs.Turns.{line_turns, rows_after, script_turns, text_of, Turn}
+use Rattle.fsrm_session.specs.Turns.{line_turns, script_turns, text_of, Turn}
 use Rattle.fsrm_session.specs.Underway.{ShowsSome, Underway}
 use Rattle.fsrm_session.specs.declared.session.Session.{Session}
 use Rattle.fsrm_modes.proofs.ScriptTurns.{rows_after-script, text_of-lines, text_of-script}
-use Rattle.fsrm_modes.specs.Answers.{most_taken, HoldsNone, IsQuiet, IsTooLong, OnReadStop}
-use Rattle.fsrm_modes.specs.Bytes.{Taken, TakenMost}
-use Rattle.fsrm_modes.specs.Ends.{CutAt, Outcome, TakesScript}
-use Rattle.fsrm_modes.specs.Promises.{Begins, Replays, ShowsEnded}
+use Rattle.fsrm_modes.specs.Answers.{most_taken, IsQuiet, IsTooLong, OnReadStop}
+use Rattle.fsrm_modes.specs.Bytes.{TakenMost}
+use Rattle.fsrm_modes.specs.Ends.{CutAt, TakesScript}
+use Rattle.fsrm_modes.specs.OwnTurns.{TakesTurns}
+use Rattle.fsrm_modes.specs.Promises.{Replays, ShowsEnded}
 use Rattle.fsrm_modes.specs.Reading.{ReadTo}
-use Rattle.fsrm_modes.specs.Statuses.{CloseCounts, EndCounts, IsReadEnd, IsSettled, ReadCounts, SettleCounts, of_stop, of_store}
+use Rattle.fsrm_modes.specs.Statuses.{CloseCounts, EndCounts, IsReadEnd, IsSettled, ReadCounts, SettleCounts, of_stop}
+use Rattle.fsrm_modes.specs.Tasks.{EndsScript}
 use Rattle.fsrm_modes.specs.declared.status.Status.{Status}
 use Rattle.fsrm_modes.specs.declared.status.Status.TheVariants.{Done, Usage, ReadFault, WriteFault, DiskFault, TooLong, Damaged, NoMemory, NoStore, AlreadyStore}
 
 -- ---- a store that can't be opened
-
-pub fault_replays : {O : Type 0} {M : Members O} (fault : StoreFault) (status : Status) (K : Capacity) (R : Rows) (script before : List ℕ) (old new : O) → Laws M → status ≡ of_store fault → M.by_disk old new → Begins M K R before old → Replays M K R status script before old new
-fault_replays {M = M} fault status K R script before old new laws is ran b =
-    subst (λ (s : Status). Replays M K R s script before old new) (sym is)
-    (go fault ([], (laws.disk_keeps_sink old new ran).same_shown ∙ b.shown ∙ ap (λ (l : List ℕ). Some l) (sym (append-nil before)), (text K R script, refl)))
-  where
-    go : (fault : StoreFault) → ShowsSome M (text K R script) before new → Replays M K R (of_store fault) script before old new
-    go faults.NoStore s = record { front = s; whole = λ e. absurd (cc); at_end = λ e. absurd (cc); short = λ e. absurd (cc); kept = λ e. absurd (cc); too_long = λ e. absurd (cc); ended = tt }
-    go faults.AlreadyStore s = record { front = s; whole = λ e. absurd (cc); at_end = λ e. absurd (cc); short = λ e. absurd (cc); kept = λ e. absurd (cc); too_long = λ e. absurd (cc); ended = tt }
-    go (faults.Damaged part place) s = record { front = s; whole = λ e. absurd (cc); at_end = λ e. absurd (cc); short = λ e. absurd (cc); kept = λ e. absurd (cc); too_long = λ e. absurd (cc); ended = tt }
-    go faults.DiskFault s = record { front = s; whole = λ e. absurd (cc); at_end = λ e. absurd (cc); short = λ e. absurd (cc); kept = λ e. absurd (cc); too_long = λ e. absurd (cc); ended = tt }
-    go faults.NoMemory s = record { front = s; whole = λ e. absurd (cc); at_end = λ e. absurd (cc); short = λ e. absurd (cc); kept = λ e. absurd (cc); too_long = λ e. absurd (cc); ended = tt }
 
 pub fault_quiet : {O : Type 0} {M : Members O} (old new : O) → Laws M → M.by_disk old new → M.reads new ≡ M.reads old → Through M.disk_clock M.images Same old new → IsQuiet M old new
 fault_quiet old new laws ran same crash = record { left = (laws.disk_keeps_source old new ran).same_left; shown = (laws.disk_keeps_sink old new ran).same_shown; reads = same; crash = crash }
@@ -54,13 +38,7 @@ fault_quiet old new laws ran same crash = record { left = (laws.disk_keeps_sourc
 pub none_taken : (a b : Option (List ℕ)) (most : ℕ) → b ≡ a → TakenMost a b most
 none_taken a b most same = record { bytes = []; few = omega arith; taken = record { rest = λ script e. (script, refl, same ∙ e) } }
 
-pub fault_taken : {O : Type 0} {M : Members O} (status : Status) (old new : O) → Laws M → M.by_disk old new → TakenMost (M.left old) (M.left new) (most_taken status)
-fault_taken {M = M} status old new laws ran = none_taken (M.left old) (M.left new) (most_taken status) (laws.disk_keeps_source old new ran).same_left
-
-pub stop_taken : (a b : Option (List ℕ)) (status : Status) → b ≡ a → TakenMost a b (most_taken status)
-stop_taken a b status same = none_taken a b (most_taken status) same
-
-whole_taken : (status : Status) → longest_script ≤ most_taken status
+pub whole_taken : (status : Status) → longest_script ≤ most_taken status
 whole_taken TooLong = omega arith
 whole_taken Done = omega arith
 whole_taken Usage = omega arith
@@ -71,16 +49,6 @@ whole_taken (Damaged part place) = omega arith
 whole_taken NoMemory = omega arith
 whole_taken NoStore = omega arith
 whole_taken AlreadyStore = omega arith
-
-taken_from : {T : Type 0} (ended : Result T Status) (status : Status) (a b : Option (List ℕ)) → IfErr ended (λ s. status ≡ s) → MatchResult ended (λ x. TakenMost a b longest_script) (λ s. TakenMost a b (most_taken s)) → TakenMost a b (most_taken status)
-taken_from (Ok x) status a b is t = record { bytes = t.bytes; few = omega (arith, t.few, whole_taken status); taken = t.taken }
-taken_from (Err s) status a b is t = subst (λ (x : Status). TakenMost a b (most_taken x)) (sym is) t
-
-pub run_taken : {O T : Type 0} {M : Members O} (ended : Result T Status) (status : Status) (old mid now new : O) → Laws M → M.by_disk old mid → IfErr ended (λ s. status ≡ s)
-    → MatchResult ended (λ x. TakenMost (M.left mid) (M.left now) longest_script) (λ s. TakenMost (M.left mid) (M.left now) (most_taken s)) → M.left new ≡ M.left now → TakenMost (M.left old) (M.left new) (most_taken status)
-run_taken {M = M} ended status old mid now new laws ran is t same =
-    subst (λ (a : Option (List ℕ)). TakenMost a (M.left new) (most_taken status)) (laws.disk_keeps_source old mid ran).same_left
-    (subst (λ (b : Option (List ℕ)). TakenMost (M.left mid) b (most_taken status)) (sym same) (taken_from ended status (M.left mid) (M.left now) is t))
 
 -- ---- the script's end
 
@@ -160,26 +128,32 @@ shows_ended {M = M} (Err s) status K R script before session old mid now new w d
           ∙ ap (λ (l : List ℕ). Some (before ++ l)) (text_of-lines K R 1 h.ended);
     }) cut)
 
-pub run_replays : {O T : Type 0} {M : Members O} (ended : Result T Status) (status : Status) (K : Capacity) (R : Rows) (script before : List ℕ) (session : Session) (old mid now new : O) → Laws M → M.by_disk old mid → M.disk_faults mid ≡ M.disk_faults old
-    → IfErr ended IsReadEnd → TakesScript M K R ended script before session mid now → Outcome M status K R (script_turns K script) before mid new
+pub run_ends : {O T : Type 0} {M : Members O} (ended : Result T Status) (status : Status) (K : Capacity) (R : Rows) (script before : List ℕ) (session : Session) (old mid now new : O) → Laws M → M.by_disk old mid → M.disk_faults mid ≡ M.disk_faults old
+    → IfErr ended IsReadEnd → TakesScript M K R ended script before session mid now
     → ((turns : List Turn) (words : List ℕ) → Underway M K R turns words before session now → IfErr ended (λ s. IsSettled s → (Rose (M.write_faults now) (M.write_faults new) → ⊥) → (Rose (M.disk_faults now) (M.disk_faults new) → ⊥) → M.shown new ≡ Some (before ++ words)))
     → ReadCounts ended (M.read_faults mid) (M.read_faults now) (M.write_faults mid) (M.write_faults now) (M.disk_faults mid) (M.disk_faults now)
     → IfErr ended (λ s. status ≡ s) → MatchResult ended (λ x. SettleCounts status (M.write_faults now) (M.write_faults new) (M.disk_faults now) (M.disk_faults new)) (λ s. CloseCounts s (M.write_faults now) (M.write_faults new) (M.disk_faults now) (M.disk_faults new))
-    → M.left new ≡ M.left now → Replays M K R status script before old new
-run_replays {M = M} ended status K R script before session old mid now new laws ran kept only took out whole counts is c left = record {
-  front = subst (λ (l : List ℕ). ShowsSome M l before new) (text_of-script K R script) out.front;
-  whole = λ done. out.whole done ∙ ap (λ (l : List ℕ). Some (before ++ l)) (text_of-script K R script);
+    → M.left new ≡ M.left now → EndsScript M K R status script before old new
+run_ends {M = M} ended status K R script before session old mid now new laws ran kept only took whole counts is c left = record {
   at_end = λ done. left ∙ done_ok ended status (M.left now ≡ Some []) only is took.at_end done;
   short = done_ok ended status (length script ≤ longest_script) only is took.short;
-  kept = λ done. let k = out.kept done in (k.0, k.1, k.2 ∙ ap (λ (x : Rows). Holds K (lasting x)) (rows_after-script K R script));
   too_long = λ long. subst (IsTooLong script) (sym left) (long_err ended status (IsTooLong script (M.left now)) (M.write_faults now) (M.write_faults new) (M.disk_faults now) (M.disk_faults new) is c took.too_long long);
   ended = shows_ended ended status K R script before session old mid now new (laws.disk_keeps_sink old mid ran).same_faults kept took.cut whole counts is c left;
 }
 
--- ---- the script is taken, or not begun
+-- what is shown and kept besides
+pub replays : {O : Type 0} {M : Members O} (K : Capacity) (R : Rows) (status : Status) (script before : List ℕ) (old new : O) → TakesTurns M K R status (script_turns K script) before new → EndsScript M K R status script before old new → Replays M K R status script before old new
+replays {M = M} K R status script before old new took ends = record {
+  front = subst (λ (l : List ℕ). ShowsSome M l before new) (text_of-script K R script) took.front;
+  whole = λ done. took.whole done ∙ ap (λ (l : List ℕ). Some (before ++ l)) (text_of-script K R script);
+  at_end = ends.at_end;
+  short = ends.short;
+  kept = λ done. let k = took.kept done in (k.0, k.1, k.2 ∙ ap (λ (x : Rows). Holds K (lasting x)) (rows_after-script K R script));
+  too_long = ends.too_long;
+  ended = ends.ended;
+}
 
-pub moved_taken : {T : Type 0} (r : Result T Status) (a b c : Option (List ℕ)) → b ≡ a → MatchResult r (λ x. TakenMost b c longest_script) (λ s. TakenMost b c (most_taken s)) → MatchResult r (λ x. TakenMost a c longest_script) (λ s. TakenMost a c (most_taken s))
-moved_taken r a b c same t = subst (λ (o : Option (List ℕ)). MatchResult r (λ x. TakenMost o c longest_script) (λ s. TakenMost o c (most_taken s))) same t
+-- ---- the script is taken, or not begun
 
 pub read_ready : {T : Type 0} (r : Result T Status) (P : Type 0) → OnOk r P → IfErr r (λ s. s ≢ WriteFault → s ≢ DiskFault → P) → MatchResult r (λ x. P) (λ s. IsSettled s → P)
 read_ready (Ok x) P p q = p
@@ -201,14 +175,6 @@ begin_ready stop status P is p settled = go stop p (subst IsSettled is settled)
     go stops.WriteFault p settled = absurd settled
     go stops.DiskFault p settled = absurd settled
     go stops.NoMemory p settled = p refl
-
-pub stop_end : (stop : Stop) (status : Status) → status ≡ of_stop stop → IsReadEnd status
-stop_end stop status is = subst IsReadEnd (sym is) (go stop)
-  where
-    go : (stop : Stop) → IsReadEnd (of_stop stop)
-    go stops.WriteFault = tt
-    go stops.DiskFault = tt
-    go stops.NoMemory = tt
 
 pub stop_counts : (stop : Stop) (status : Status) (r q w v d e : ℕ) → status ≡ of_stop stop → q ≡ r → StopCounts stop w v d e → EndCounts status r q w v d e
 stop_counts stop status r q w v d e is same c = subst (λ (s : Status). EndCounts s r q w v d e) (sym is) (go stop c)
@@ -252,7 +218,3 @@ pub stop_not_long : (stop : Stop) (status : Status) → status ≡ of_stop stop 
 stop_not_long stops.WriteFault status is long = absurd (cc)
 stop_not_long stops.DiskFault status is long = absurd (cc)
 stop_not_long stops.NoMemory status is long = absurd (cc)
-
-pub run_long : {O T : Type 0} (M : Members O) (ended : Result T Status) (status : Status) (script : List ℕ) (now new : O) (w v d e : ℕ) → IfErr ended (λ s. status ≡ s) → MatchResult ended (λ x. SettleCounts status w v d e) (λ s. CloseCounts s w v d e)
-    → IfErr ended (λ s. s ≡ TooLong → IsTooLong script (M.left now)) → M.left new ≡ M.left now → status ≡ TooLong → IsTooLong script (M.left new)
-run_long M ended status script now new w v d e is c p left long = subst (IsTooLong script) (sym left) (long_err ended status (IsTooLong script (M.left now)) w v d e is c p long)

@@ -5,7 +5,6 @@ use Rattle.std.proofs.lemmas.Bool.Decides.{nat_tests}
 use Rattle.std.proofs.lemmas.List.{append-nil, length-drop}
 use Rattle.fsrm_model.specs.declared.row.Capacity.{Capacity}
 use Rattle.fsrm_model.specs.declared.row.Rows.{Rows}
-use Rattle.fsrm_model.specs.lines.Script.{text}
 use Rattle.fsrm_model.specs.store.Capacities.{is_capacity}
 use Rattle.fsrm_model.specs.store.Valid.{is_moment}
 use Rattle.fsrm_model.specs.values.Limits.{latest_moment, longest_script}
@@ -22,17 +21,16 @@ use Rattle.fsrm_store.specs.declared.fault.StoreFault.TheVariants as faults
 use Rattle.fsrm_store.specs.States.{state_of}
 use Rattle.fsrm_store.specs.States.State.{DamagedAt, Holds, NoState}
 use Rattle.fsrm_session.specs.Turns.{Turn, text_of}
-use Rattle.made_script.specs.Summary.{summary}
 use Rattle.program_words.specs.Modes.{IsLegal}
 use Rattle.program_words.specs.declared.modes.Mode.{Mode}
 use Rattle.program_words.specs.declared.modes.Mode.TheVariants.{Init, Replay, Expire, Tick}
-use Rattle.fsrm_modes.specs.Answers.{most_taken, Fits, FitsInit, FitsReplay, FitsUnread, IsDoneOrNoMemory, IsQuiet, IsReadyOver, IsTooLong, Tells, TellsNew, TellsStore}
+use Rattle.fsrm_modes.specs.Answers.{most_taken, Fits, FitsInit, FitsUnread, IsDoneOrNoMemory, IsQuiet, IsReadyOver, IsTooLong, Tells, TellsNew, TellsStore}
 use Rattle.fsrm_modes.specs.Bytes.{TakenMost}
 use Rattle.fsrm_modes.specs.Looks.{FewForTurns}
 use Rattle.fsrm_modes.specs.OwnTurns.{TakesTurns}
-use Rattle.fsrm_modes.specs.Promises.{Replays, Shows}
-use Rattle.fsrm_modes.specs.Working.{Works}
+use Rattle.fsrm_modes.specs.Promises.{Shows}
 use Rattle.fsrm_modes.specs.Statuses.{KeepsDisk, KeepsReads, KeepsWrites, of_store}
+use Rattle.fsrm_modes.specs.Tasks.{EndsScript}
 use Rattle.fsrm_modes.specs.declared.status.Status.{Status}
 use Rattle.fsrm_modes.specs.declared.status.Status.TheVariants.{Done, Usage, ReadFault, WriteFault, DiskFault, TooLong, Damaged, NoMemory, NoStore, AlreadyStore}
 
@@ -79,26 +77,11 @@ idle_safe M Covers start now told = record {
   since = λ t m i at from to left shown is. let same : start ≡ t = some_is (sym told ∙ at) in absurd (omega arith);
 }
 
-pub idle_replays : {O : Type 0} (M : Members O) (K : Capacity) (R : Rows) (script before : List ℕ) (now : O) → M.shown now ≡ Some before → Replays M K R NoMemory script before now now
-idle_replays M K R script before now told = record {
-  front = ([], told ∙ ap (λ (l : List ℕ). Some l) (sym (append-nil before)), (text K R script, refl));
-  whole = λ e. absurd (cc);
-  at_end = λ e. absurd (cc);
-  short = λ e. absurd (cc);
-  kept = λ e. absurd (cc);
-  too_long = λ e. absurd (cc);
-  ended = tt;
-}
+pub idle_ends : {O : Type 0} (M : Members O) (K : Capacity) (R : Rows) (script before : List ℕ) (now : O) → EndsScript M K R NoMemory script before now now
+idle_ends M K R script before now = record { at_end = λ e. absurd (cc); short = λ e. absurd (cc); too_long = λ e. absurd (cc); ended = tt }
 
 pub idle_shows : {O : Type 0} (M : Members O) (list before : List ℕ) (now : O) → M.shown now ≡ Some before → Shows M list NoMemory before now
 idle_shows M list before now told = record { front = ([], told ∙ ap (λ (l : List ℕ). Some l) (sym (append-nil before)), (list, refl)); whole = λ e. absurd (cc) }
-
-pub idle_works : {O : Type 0} (M : Members O) (K : Capacity) (R : Rows) (seed count : ℕ) (before : List ℕ) (now : O) → M.shown now ≡ Some before → Works M K R NoMemory seed count before now
-idle_works M K R seed count before now told = record {
-  front = ([], told ∙ ap (λ (l : List ℕ). Some l) (sym (append-nil before)), (summary K R seed count, refl));
-  whole = λ e. absurd (cc);
-  kept = λ e. absurd (cc);
-}
 
 pub idle_takes : {O : Type 0} (M : Members O) (K : Capacity) (R : Rows) (turns : List Turn) (before : List ℕ) (now : O) → M.shown now ≡ Some before → TakesTurns M K R NoMemory turns before now
 idle_takes M K R turns before now told = record {
@@ -204,11 +187,6 @@ init_fits s (inl is) = subst FitsInit (sym is) tt
 init_fits s (inr (inl is)) = subst FitsInit (sym is) tt
 init_fits s (inr (inr (inl is))) = subst FitsInit (sym is) tt
 init_fits s (inr (inr (inr is))) = subst FitsInit (sym is) tt
-
-pub replay_fits : (s : Status) → (s ≢ Usage) × (s ≢ AlreadyStore) → FitsReplay s
-replay_fits Usage only = absurd (only.0 refl)
-replay_fits AlreadyStore only = absurd (only.1 refl)
-replay_fits other only = tt
 
 pub unread_fits : (s : Status) → (s ≢ Usage) × (s ≢ AlreadyStore) × (s ≢ TooLong) × (s ≢ ReadFault) → FitsUnread s
 unread_fits Usage only = absurd (only.0 refl)

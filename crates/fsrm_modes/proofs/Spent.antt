@@ -1,6 +1,6 @@
 -- What a run takes, from its beginning to its end.
 use Rattle.std.proofs.Common.{◌≡◌, ℕ, true, false, Bool, ◌+◌, ◌*◌, ◌≤◌, List, [], ◌∷◌, ◌++◌, length, refl, sym, ap, ◌∙◌, subst, arith}
-use Rattle.std.specs.Prelude.{◌/◌, Err, Ok, Result, if◌then◌else◌}
+use Rattle.std.specs.Prelude.{Err, Ok, Result, if◌then◌else◌}
 use Rattle.std.proofs.lemmas.List.{append-nil}
 use Rattle.std.proofs.lemmas.Nat.{mul-le}
 use Rattle.fsrm_model.specs.declared.row.Capacity.{Capacity}
@@ -8,25 +8,19 @@ use Rattle.fsrm_model.specs.declared.row.Rows.{Rows}
 use Rattle.fsrm_model.specs.lines.Script.{cost_from, lines, replied, script_cost}
 use Rattle.fsrm_outside.specs.Members.{Members}
 use Rattle.fsrm_outside.specs.Parts.{Parts}
-use Rattle.fsrm_outside.specs.declared.traits.Part.{Part}
-use Rattle.fsrm_journal.specs.Opened.{judged_parts}
 use Rattle.fsrm_store.specs.Amortized.{bytes_since, Amortized}
-use Rattle.fsrm_store.specs.Keeps.{HasTail}
-use Rattle.fsrm_store.specs.Recovery.{is_first_version, FewLooks}
+use Rattle.fsrm_store.specs.Recovery.{FewLooks}
 use Rattle.fsrm_store.specs.States.{state_of}
 use Rattle.fsrm_store.specs.States.State.{Holds}
 use Rattle.fsrm_store.specs.declared.store.Store.{Store}
-use Rattle.fsrm_store.proofs.Amortizing.{whole}
-use Rattle.fsrm_store.proofs.StateLaws.{same_ok}
-use Rattle.fsrm_store.proofs.TailLaws.{one_tail}
-use Rattle.fsrm_session.specs.Spending.{bytes_after, renewing, Eases, Spends}
-use Rattle.fsrm_session.specs.Turns.{bytes_of, line_turns, looks_of, rows_after, script_turns, text_of, IsWithin, Turn}
-use Rattle.fsrm_session.specs.Underway.{Calms, Underway}
+use Rattle.fsrm_session.specs.Spending.{bytes_after, Eases}
+use Rattle.fsrm_session.specs.Turns.{line_turns, looks_of, rows_after, script_turns, text_of, IsWithin, Turn}
+use Rattle.fsrm_session.specs.Underway.{Underway}
 use Rattle.fsrm_session.specs.declared.session.Session.{Session}
 use Rattle.fsrm_session.specs.declared.stop.Stop.{Stop}
-use Rattle.fsrm_session.proofs.Spending.{allowed, no_image, within_first, within_now}
+use Rattle.fsrm_session.proofs.Spending.{allowed, no_image, within_first}
 use Rattle.fsrm_modes.specs.Ends.{EndedBy}
-use Rattle.fsrm_modes.specs.Looks.{left_after, FewForScript, FewToShow}
+use Rattle.fsrm_modes.specs.Looks.{left_after, FewForScript, FewForTurns, FewToShow}
 use Rattle.fsrm_modes.specs.Statuses.{of_stop, IsSettled}
 use Rattle.fsrm_modes.specs.declared.status.Status.{Status}
 use Rattle.fsrm_modes.specs.declared.status.Status.TheVariants.{Done, Usage, ReadFault, WriteFault, DiskFault, TooLong, Damaged, NoMemory, NoStore, AlreadyStore}
@@ -56,26 +50,11 @@ then_images nodes most looks mid steps bytes left rest few a b = record {
   paid = omega (arith, a.paid, b.paid);
 }
 
--- ---- the lines of a script are taken
--- once the store may be written to
-pub begun_spends : {O : Type 0} {M : Members O} (K : Capacity) (R : Rows) (script before : List ℕ) (was mid : Session) (first half : O) (looks spent steps left most : ℕ) → Calms M was mid first half → Underway M K R [] [] before was first
-    → spent ≤ looks + renewing was.store → bytes_since mid.store.journal ≤ bytes_since was.store.journal → Spends M (script_turns mid.store.engine.size script) mid half spent steps left → IsWithin most R (script_turns K script)
-    → Amortized most ((looks + renewing was.store) + looks_of R (script_turns K script)) steps (bytes_since was.store.journal + bytes_of R (script_turns K script)) left
-begun_spends {M = M} K R script before was mid first half looks spent steps left most calms u late paid p within =
-    let v = (calms.calms K R [] [] before u).0 in
-    let turns = script_turns K script in
-    let q = subst (λ (C : Capacity). Spends M (script_turns C script) mid half spent steps left) v.size p in
-    let one = q.spends K R [] before v most (subst (λ (S : Rows). IsWithin most S turns) (sym v.rows) within) in
-    let rows = mid.store.engine.rows in
-    allowed most most (spent + looks_of rows turns) ((looks + renewing was.store) + looks_of R turns) steps (bytes_since mid.store.journal + bytes_of rows turns) (bytes_since was.store.journal + bytes_of R turns) left left (omega arith)
-    (omega (arith, late, ap (λ (S : Rows). looks_of S turns) v.rows))
-    (omega (arith, paid, ap (λ (S : Rows). bytes_of S turns) v.rows)) (omega arith) one
-
--- it may not
-pub stop_spent : (S T : Type 0) (stop : Stop) (status : Status) (now : Session) (looks steps bytes cost more most : ℕ) → status ≡ of_stop stop → steps ≤ looks → bytes_after {T = S} (Err stop) now ≤ bytes
-    → Amortized most (looks + cost) steps (bytes + more) (left_after {T = T} (Err status) now)
-stop_spent S T stop status now looks steps bytes cost more most is few paid =
-    no_image most (looks + cost) steps (bytes + more) (left_after {T = T} (Err status) now) (omega (arith, few))
+-- ---- turns are not begun
+pub stop_spent : (S T : Type 0) (stop : Stop) (status : Status) (now : Session) (looks steps bytes beside own more most : ℕ) → status ≡ of_stop stop → steps ≤ looks → bytes_after {T = S} (Err stop) now ≤ bytes
+    → Amortized most ((looks + beside) + own) steps (bytes + more) (left_after {T = T} (Err status) now)
+stop_spent S T stop status now looks steps bytes beside own more most is few paid =
+    no_image most ((looks + beside) + own) steps (bytes + more) (left_after {T = T} (Err status) now) (omega (arith, few))
     (omega (arith, paid, ap (λ (s : Status). left_after {T = T} (Err s) now) is, left_stop S T stop now))
 
 -- ---- the run ends
@@ -121,36 +100,14 @@ ended_spends M T NoStore K R turns before session now most looks mid steps bytes
 ended_spends M T AlreadyStore K R turns before session now most looks mid steps bytes e within a close same = same_steps most looks mid steps bytes 0 (same (λ x. x)) a
 
 -- ---- the whole run
--- the store couldn't be opened
-pub fault_few : (parts : Parts) (K : Capacity) (R : Rows) (script : List ℕ) (looks steps : ℕ) → FewLooks parts looks steps → FewForScript parts K R script looks steps
-fault_few parts K R script looks steps opening = record { opened = steps; opening = opening; few = λ ruling tail most judged has within. omega arith }
-
--- it was
 pub renews : (old version : Bool) (nodes most : ℕ) → old ≡ version → nodes ≤ most → (if old then 2 * nodes else 0) ≤ (if version then 2 * most else 0)
 renews true true nodes most same few = omega (arith, few)
 renews true false nodes most same few = absurd cc
 renews false true nodes most same few = omega arith
 renews false false nodes most same few = omega arith
 
-pub run_few : (parts : Parts) (K : Capacity) (R : Rows) (script : List ℕ) (store : Store) (looks opened steps : ℕ) → FewLooks parts looks opened → state_of parts ≡ Holds K R → state_of parts ≡ Holds store.engine.size store.engine.rows
-    → (judged_parts parts ≡ Ok store.journal.ruling) × (store.is_old ≡ is_first_version store.journal.ruling parts) → HasTail (bytes_since store.journal) parts
-    → ((most : ℕ) → IsWithin most R (script_turns K script) → Amortized most ((opened + renewing store) + looks_of R (script_turns K script)) steps (bytes_since store.journal + bytes_of R (script_turns K script)) 0)
-    → FewForScript parts K R script looks steps
-run_few parts K R script store looks opened steps opening holds state old has spends = record {
-  opened = opened;
-  opening = opening;
-  few = λ ruling tail most judged other within.
-      let turns = script_turns K script in
-      let same : Holds K R ≡ Holds store.engine.size store.engine.rows = sym holds ∙ state in
-      let rows : R ≡ store.engine.rows = cc in
-      let fit : length store.engine.rows.nodes ≤ most = omega (arith, within_now most R turns within, ap (λ (S : Rows). length S.nodes) rows) in
-      let rule : store.journal.ruling ≡ ruling = same_ok store.journal.ruling ruling (judged_parts parts) old.0 judged in
-      let renewed : renewing store ≤ (if is_first_version ruling parts then 2 * most else 0) = renews store.is_old (is_first_version ruling parts) (length store.engine.rows.nodes) most (old.1 ∙ ap (λ (p : Part). is_first_version p parts) rule) fit in
-      let one : bytes_since store.journal ≡ tail = one_tail (bytes_since store.journal) tail parts has other in
-      let all = whole most ((opened + renewing store) + looks_of R turns) steps (bytes_since store.journal + bytes_of R turns) 0 (spends most within) in
-      let images : (bytes_since store.journal + bytes_of R turns) / 1048576 * (2 * most) ≡ (tail + bytes_of R turns) / 1048576 * (2 * most) = ap (λ (n : ℕ). (n + bytes_of R turns) / 1048576 * (2 * most)) one in
-      omega (arith, all, images, renewed, looks_of-script K R script);
-}
+pub few_script : (parts : Parts) (K : Capacity) (R : Rows) (script : List ℕ) (looks steps : ℕ) → FewForTurns parts R (script_turns K script) 0 looks steps → FewForScript parts K R script looks steps
+few_script parts K R script looks steps h = record { opened = h.opened; opening = h.opening; few = λ ruling tail most judged has within. omega (arith, h.few ruling tail most judged has within, looks_of-script K R script) }
 
 -- ---- a text over the rows of a store
 pub fault_shown : (parts : Parts) (cost looks steps : ℕ) → FewLooks parts looks steps → FewToShow parts cost looks steps

@@ -16,14 +16,14 @@ use Rattle.fsrm_model.specs.values.Name.{names_differ}
 use Rattle.fsrm_model.proofs.valid.ScreensKept.{all_weaker}
 use Rattle.fsrm_outside.specs.Members.{Members}
 use Rattle.fsrm_outside.proofs.OutsideLaws.{Laws}
-use Rattle.fsrm_store.specs.Amortized.{bytes_since, Amortized}
+use Rattle.fsrm_store.specs.Amortized.{bytes_since}
 use Rattle.fsrm_session.specs.Spending.{Spends}
 use Rattle.fsrm_session.specs.Turns.{Turn, command_turn}
 use Rattle.fsrm_session.specs.Underway.{Goes, Stops}
 use Rattle.fsrm_session.specs.declared.session.Session.{Session}
 use Rattle.fsrm_session.specs.declared.stop.Stop.{Stop}
 use Rattle.fsrm_session.proofs.Going.{goes_stops, goes_then, stops_more}
-use Rattle.fsrm_session.proofs.Spending.{allowed, spends_first, spends_then}
+use Rattle.fsrm_session.proofs.Spending.{spends_first, spends_then}
 use Rattle.fsrm_modes.specs.Ticks.{commands_turns, unread_turn, unread_turns}
 
 -- ---- turns of a list, up to a place
@@ -83,10 +83,3 @@ pub valid_jobs : (K : Capacity) (R : Rows) → IsValid K R → list_all is_job R
 valid_jobs K R store =
     let parts = both (is_ascending job_number R.jobs && nat_le (length R.jobs) most_jobs) (list_all (is_sound_job R.nodes) R.jobs && names_differ job_name R.jobs) store.tables.jobs in
     all_weaker (is_sound_job R.nodes) is_job R.jobs (λ job sound. (both (is_folder R.nodes job.scope) (is_job job) sound).1) (both (list_all (is_sound_job R.nodes) R.jobs) (names_differ job_name R.jobs) parts.1).0
-
--- ---- no looks are taken beside those of the turns
-pub none_beside : (most looks own steps bytes left : ℕ) → Amortized most ((looks + 0) + own) steps bytes left → Amortized most (looks + own) steps bytes left
-none_beside most looks own steps bytes left a = allowed most most ((looks + 0) + own) (looks + own) steps bytes bytes left left (omega arith) (omega arith) (omega arith) (omega arith) a
-
-pub beside_none : (most looks own steps bytes left : ℕ) → Amortized most (looks + own) steps bytes left → Amortized most ((looks + 0) + own) steps bytes left
-beside_none most looks own steps bytes left a = allowed most most (looks + own) ((looks + 0) + own) steps bytes bytes left left (omega arith) (omega arith) (omega arith) (omega arith) a

@@ -1,41 +1,36 @@
--- A run of replay, from the store that it opens to its status.
-use Rattle.std.proofs.Common.{◌≡◌, ◌≢◌, inl, inr, ⊎_elim, ℕ, ◌+◌, ◌-◌, ◌≤◌, Some, List, [], ◌++◌, length, refl, sym, ◌∙◌, ap, subst, arith}
-use Rattle.std.specs.Prelude.{◌⊎◌, Option, Result, Ok, Err, OnOk, IfErr, IsErrOf, MatchResult}
+-- A run that takes turns, from the store that it opens to its status.
+use Rattle.std.proofs.Common.{◌≡◌, ◌≢◌, inl, inr, ⊎_elim, ℕ, ◌-◌, ◌≤◌, Some, List, [], length, refl, sym, ◌∙◌, ap, subst, arith}
+use Rattle.std.specs.Prelude.{◌⊎◌, Result, Ok, Err, IfErr, IsErrOf, MatchResult}
 use Rattle.std.proofs.lemmas.List.{append-nil}
 use Rattle.fsrm_model.specs.declared.row.Capacity.{Capacity}
 use Rattle.fsrm_model.specs.declared.row.Rows.{Rows}
-use Rattle.fsrm_model.specs.lines.Script.{fold_from, lines, text, text_from}
 use Rattle.fsrm_model.specs.store.Lasting.{lasting}
 use Rattle.fsrm_model.specs.store.Replays.{replayed}
-use Rattle.fsrm_model.specs.values.Limits.{longest_script}
 use Rattle.fsrm_model.proofs.journal.KeptEnds.{lasting_twice}
 use Rattle.fsrm_outside.specs.Causes.{Rose}
 use Rattle.fsrm_outside.specs.Changes.{Same, Through}
 use Rattle.fsrm_outside.specs.Members.{Members}
 use Rattle.fsrm_outside.specs.Parts.{Parts}
-use Rattle.fsrm_outside.specs.Runs.{CoversMore, CrashSafe, EachMoment, Synced}
+use Rattle.fsrm_outside.specs.Runs.{CoversMore, CrashSafe, EachMoment}
 use Rattle.fsrm_outside.specs.Settling.{Settles}
 use Rattle.fsrm_outside.proofs.OutsideLaws.{Laws}
 use Rattle.fsrm_outside.proofs.Runs.{safe_early, safe_since, synced_by}
 use Rattle.fsrm_outside.proofs.Stages.{some_is}
 use Rattle.fsrm_store.specs.Recovery.{IsRefused}
 use Rattle.fsrm_store.specs.Standing.{Standing}
-use Rattle.fsrm_store.specs.States.{State, state_of}
+use Rattle.fsrm_store.specs.States.{state_of}
 use Rattle.fsrm_store.specs.States.State.{Holds}
 use Rattle.fsrm_store.specs.declared.fault.StoreFault.{StoreFault}
 use Rattle.fsrm_store.specs.declared.fault.StoreFault.TheVariants as faults
 use Rattle.fsrm_store.specs.declared.store.Store.{Store}
 use Rattle.fsrm_store.proofs.StateLaws.{told_holds}
 use Rattle.fsrm_session.specs.Covers.{Covers}
-use Rattle.fsrm_session.specs.Turns.{Turn, line_turns, rows_after, script_turns, text_of}
-use Rattle.fsrm_session.specs.Underway.{Safe, ShowsSome, Underway}
+use Rattle.fsrm_session.specs.Turns.{Turn}
+use Rattle.fsrm_session.specs.Underway.{Safe, Underway}
 use Rattle.fsrm_session.specs.declared.session.Session.{Session}
-use Rattle.fsrm_modes.proofs.ScriptTurns.{rows_after-script, text_of-lines, text_of-script}
-use Rattle.fsrm_modes.specs.Answers.{most_taken, HoldsNone, IsQuiet, IsTooLong, OnReadStop, TellsStore}
-use Rattle.fsrm_modes.specs.Bytes.{Taken, TakenMost}
-use Rattle.fsrm_modes.specs.Ends.{CutAt, Outcome, TakesScript, Took}
-use Rattle.fsrm_modes.specs.Promises.{Begins, Replays, ShowsEnded}
-use Rattle.fsrm_modes.specs.Statuses.{CloseCounts, EndCounts, IsReadEnd, IsSettled, KeepsDisk, KeepsReads, KeepsWrites, ReadCounts, SettleCounts, of_store}
+use Rattle.fsrm_modes.specs.Answers.{TellsStore}
+use Rattle.fsrm_modes.specs.Promises.{Begins}
+use Rattle.fsrm_modes.specs.Statuses.{CloseCounts, EndCounts, IsReadEnd, ReadCounts, SettleCounts, of_store, RunCounts}
 use Rattle.fsrm_modes.specs.declared.status.Status.{Status}
 use Rattle.fsrm_modes.specs.declared.status.Status.TheVariants.{Done, Usage, ReadFault, WriteFault, DiskFault, TooLong, Damaged, NoMemory, NoStore, AlreadyStore}
 
@@ -139,56 +134,6 @@ pub run_tells : {T : Type 0} (ended : Result T Status) (status : Status) (parts 
 run_tells (Ok x) status parts K R w v d e only is c state = settled_tells parts K R status w v d e c state
 run_tells (Err s) status parts K R w v d e only is c state = subst (TellsStore parts) (sym is) (end_tells parts K R s only state)
 
-pub told_not : (parts : Parts) (status : Status) → TellsStore parts status → (status ≢ Usage) × (status ≢ AlreadyStore)
-told_not parts Usage t = absurd t
-told_not parts AlreadyStore t = absurd t
-told_not parts Done t = (λ e. absurd (cc), λ e. absurd (cc))
-told_not parts ReadFault t = (λ e. absurd (cc), λ e. absurd (cc))
-told_not parts WriteFault t = (λ e. absurd (cc), λ e. absurd (cc))
-told_not parts DiskFault t = (λ e. absurd (cc), λ e. absurd (cc))
-told_not parts TooLong t = (λ e. absurd (cc), λ e. absurd (cc))
-told_not parts (Damaged part place) t = (λ e. absurd (cc), λ e. absurd (cc))
-told_not parts NoMemory t = (λ e. absurd (cc), λ e. absurd (cc))
-told_not parts NoStore t = (λ e. absurd (cc), λ e. absurd (cc))
-
-pub end_not : (status : Status) → IsReadEnd status → (status ≢ Usage) × (status ≢ AlreadyStore)
-end_not Usage t = absurd t
-end_not AlreadyStore t = absurd t
-end_not Done t = absurd t
-end_not (Damaged part place) t = absurd t
-end_not NoStore t = absurd t
-end_not ReadFault t = (λ e. absurd (cc), λ e. absurd (cc))
-end_not WriteFault t = (λ e. absurd (cc), λ e. absurd (cc))
-end_not DiskFault t = (λ e. absurd (cc), λ e. absurd (cc))
-end_not TooLong t = (λ e. absurd (cc), λ e. absurd (cc))
-end_not NoMemory t = (λ e. absurd (cc), λ e. absurd (cc))
-
-settled_not : (status : Status) (w v d e : ℕ) → SettleCounts status w v d e → (status ≢ Usage) × (status ≢ AlreadyStore)
-settled_not Done w v d e c = (λ e. absurd (cc), λ e. absurd (cc))
-settled_not WriteFault w v d e c = (λ e. absurd (cc), λ e. absurd (cc))
-settled_not DiskFault w v d e c = (λ e. absurd (cc), λ e. absurd (cc))
-settled_not ReadFault w v d e c = absurd c
-settled_not TooLong w v d e c = absurd c
-settled_not NoMemory w v d e c = absurd c
-settled_not Usage w v d e c = absurd c
-settled_not (Damaged part place) w v d e c = absurd c
-settled_not NoStore w v d e c = absurd c
-settled_not AlreadyStore w v d e c = absurd c
-
-pub run_not : {T : Type 0} (ended : Result T Status) (status : Status) (w v d e : ℕ) → IfErr ended IsReadEnd → IfErr ended (λ s. status ≡ s) → MatchResult ended (λ x. SettleCounts status w v d e) (λ s. CloseCounts s w v d e) → (status ≢ Usage) × (status ≢ AlreadyStore)
-run_not (Ok x) status w v d e only is c = settled_not status w v d e c
-run_not (Err s) status w v d e only is c = subst (λ (x : Status). (x ≢ Usage) × (x ≢ AlreadyStore)) (sym is) (end_not s only)
-
-pub fault_not : {T : Type 0} (r : Result T StoreFault) (fault : StoreFault) (status : Status) → r ≡ Err fault → r ≢ Err faults.AlreadyStore → status ≡ of_store fault → (status ≢ Usage) × (status ≢ AlreadyStore)
-fault_not r fault status was never is = subst (λ (x : Status). (x ≢ Usage) × (x ≢ AlreadyStore)) (sym is) (go fault was)
-  where
-    go : (fault : StoreFault) → r ≡ Err fault → (of_store fault ≢ Usage) × (of_store fault ≢ AlreadyStore)
-    go faults.NoStore was = (λ e. absurd (cc), λ e. absurd (cc))
-    go faults.AlreadyStore was = absurd (never was)
-    go (faults.Damaged part place) was = (λ e. absurd (cc), λ e. absurd (cc))
-    go faults.DiskFault was = (λ e. absurd (cc), λ e. absurd (cc))
-    go faults.NoMemory was = (λ e. absurd (cc), λ e. absurd (cc))
-
 pub fault_show : {T : Type 0} (r : Result T StoreFault) (fault : StoreFault) (status : Status) → r ≡ Err fault → r ≢ Err faults.AlreadyStore → status ≡ of_store fault → (status ≢ Usage) × (status ≢ AlreadyStore) × (status ≢ TooLong) × (status ≢ ReadFault)
 fault_show r fault status was never is = subst (λ (x : Status). (x ≢ Usage) × (x ≢ AlreadyStore) × (x ≢ TooLong) × (x ≢ ReadFault)) (sym is) (go fault was)
   where
@@ -200,14 +145,6 @@ fault_show r fault status was never is = subst (λ (x : Status). (x ≢ Usage) �
     go faults.NoMemory was = (λ e. absurd (cc), λ e. absurd (cc), λ e. absurd (cc), λ e. absurd (cc))
 
 -- ---- the counts
-
-pub record RunCounts (status : Status) (r q w v d e : ℕ) : Type 0 where
-  pub read_fault : status ≡ ReadFault → Rose r q
-  pub write_fault : status ≡ WriteFault → Rose w v
-  pub disk_fault : status ≡ DiskFault → Rose d e
-  pub reads_kept : KeepsReads status r q
-  pub writes_kept : KeepsWrites status w v
-  pub disk_kept : KeepsDisk status d e
 
 -- a store that can't be opened
 pub fault_counts : (fault : StoreFault) (status : Status) (r q w v d e : ℕ) → status ≡ of_store fault → q ≡ r → v ≡ w → d ≤ e → (fault ≡ faults.DiskFault → Rose d e) → (fault ≡ faults.DiskFault) ⊎ (e ≡ d) → RunCounts status r q w v d e

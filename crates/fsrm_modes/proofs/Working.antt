@@ -1,7 +1,6 @@
 -- The lines of a made script are taken, one after the other.
 use Rattle.std.proofs.Common.{◌≡◌, ℕ, ◌+◌, List, [], ◌∷◌, ◌++◌, length, refl, sym, ◌∙◌, ap, subst, arith, append_assoc, length-append}
 use Rattle.std.specs.Prelude.{None, Option, Result, Ok, Err, OnErr}
-use Rattle.std.proofs.lemmas.List.{append-nil}
 use Rattle.fsrm_model.specs.declared.command.Command.{Command}
 use Rattle.fsrm_model.specs.declared.row.Capacity.{Capacity}
 use Rattle.fsrm_model.specs.declared.row.Rows.{Rows}
@@ -115,10 +114,6 @@ counted_more {M = M} first all rest more number next line tally counted sum was 
       size = size ∙ h.size;
       spends = subst (λ (l : List Turn). Spends M l was old looks steps (bytes_since now.store.journal)) turns cost;
     }
-
--- no line is left
-pub counted_all : {O : Type 0} {M : Members O} (first : ℕ) (all rest : List (List ℕ)) (number : ℕ) (tally : Tally) (was now : Session) (old new : O) (looks steps : ℕ) → (h : Counted M first all rest number tally was now old new looks steps) → rest ≡ [] → h.done ≡ all
-counted_all first all rest number tally was now old new looks steps h none = sym (h.split ∙ ap (λ (l : List (List ℕ)). h.done ++ l) none ∙ append-nil h.done)
 
 -- the taking stops at what is left
 pub counted_stops : {O : Type 0} {M : Members O} (stop : Stop) (first : ℕ) (all rest : List (List ℕ)) (number : ℕ) (tally : Tally) (was mid now : Session) (old half new : O) (looks spent : ℕ) → Laws M → (h : Counted M first all rest number tally was mid old half looks spent)

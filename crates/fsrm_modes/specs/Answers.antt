@@ -51,8 +51,8 @@ HoldsNone parts = (size : Capacity) (rows : Rows) → state_of parts ≡ Holds s
 abbrev pub HoldsSome : Parts → Type 0
 HoldsSome parts = (size : Capacity) × (rows : Rows) × (state_of parts ≡ Holds size rows)
 
--- How a run that opens a store tells what it finds: that there is none, or the first damage, exactly where the parts have this
--- state, unless the disk or memory fails.
+-- How a run that opens a store tells what it finds: that there is none, or the first damage, exactly where the parts
+-- have this state, unless the disk or memory fails.
 abbrev pub TellsStore : Parts → Status → Type 0
 TellsStore parts NoStore = state_of parts ≡ NoState
 TellsStore parts (Damaged part place) = state_of parts ≡ DamagedAt part place

@@ -46,7 +46,8 @@ files_turns K R to moment line [] = []
 files_turns K R to moment line (node ∷ nodes) =
     let turns = file_turns K R to moment line node in turns ++ files_turns K (rows_after R turns) to moment (line + 1) nodes
 
--- a run over these rows: the files that expire there are moved, in the order of their numbers, if both folders are there
+-- a run over these rows: the files that expire there are moved, in the order of their numbers, if both folders are
+-- there
 abbrev pub expire_turns : Capacity → Rows → ExpireAsk → List Turn
 expire_turns K R ask =
     let from = target R.nodes ask.from in
@@ -76,12 +77,18 @@ expire_cost K R ask =
     else 0)
 
 -- ---- where the files stand after a run
--- A text says of a file, by its number, that it is skipped, or why it can't be moved.
+-- whole lines: nothing, or a text whose last byte ends a line
+abbrev pub IsWholeLines : List ℕ → Type 0
+IsWholeLines text = (text ≡ []) ⊎ ((first : List ℕ) × (text ≡ first ++ 10 ∷ []))
+
+-- A text says of a file, by its number, that it is skipped, or why it can't be moved. The line stands after whole
+-- lines.
 pub record SaysNot (K : Capacity) (moment number : ℕ) (text : List ℕ) : Type 0 where
   pub before : List ℕ
   pub line : List ℕ
   pub after : List ℕ
   pub text_is : text ≡ before ++ (line ++ after)
+  pub whole : IsWholeLines before
   pub line_is : (line ≡ skipped_line number) ⊎ ((rows : Rows) × ((refusal : Refusal) × (line ≡ reply K rows moment number (Refused refusal))))
 
 -- the files that expire over these rows

@@ -9,6 +9,7 @@ pub mod Places
 pub mod Promises
 pub mod Reading
 pub mod Statuses
+pub mod Tasks
 pub mod Ticks
 pub mod Views
 pub mod Working

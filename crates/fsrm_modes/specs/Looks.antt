@@ -28,8 +28,8 @@ ended_lines [] = []
 ended_lines (b ∷ bs) = if is_end b then [] ∷ ended_lines bs else onto_ended b (ended_lines bs)
 
 -- ---- what lines take
--- The bytes of records for which no image was written yet, where a read ended, or memory. If a device failed that is at least
--- nothing.
+-- The bytes of records for which no image was written yet, where a read ended, or memory. If a device failed that is at
+-- least nothing.
 abbrev pub left_after : {T : Type 0} → Result T Status → Session → ℕ
 left_after (Ok done) session = bytes_since session.store.journal
 left_after (Err ReadFault) session = bytes_since session.store.journal
@@ -51,9 +51,9 @@ piece_of (Ok count) script = take count script
 piece_of (Err status) script = script
 
 -- ---- what a run takes
--- A script over the rows of these parts: the looks for opening them, those of its lines, and, for each 1 MiB of records, of those
--- that are there and those that it adds, 2 for each node of the largest volume on the way. So many takes also the new image of a
--- store of the first version.
+-- A script over the rows of these parts: the looks for opening them, those of its lines, and, for each 1 MiB of
+-- records, of those that are there and those that it adds, 2 for each node of the largest volume on the way. So many
+-- takes also the new image of a store of the first version.
 pub record FewForScript (parts : Parts) (K : Capacity) (R : Rows) (script : List ℕ) (looks steps : ℕ) : Type 0 where
   pub opened : ℕ
   pub opening : FewLooks parts looks opened
@@ -66,9 +66,9 @@ pub record FewToShow (parts : Parts) (cost looks steps : ℕ) : Type 0 where
   pub opening : FewLooks parts looks opened
   pub few : steps ≤ opened + cost
 
--- Turns over the rows of these parts, and so many looks beside them: the looks for opening the rows, those, the ones of the turns, and,
--- for each 1 MiB of records, of those that are there and those that the turns add, 2 for each node of the largest volume on the way.
--- So many takes also the new image of a store of the first version.
+-- Turns over the rows of these parts, and so many looks beside them: the looks for opening the rows, those, the ones of
+-- the turns, and, for each 1 MiB of records, of those that are there and those that the turns add, 2 for each node of
+-- the largest volume on the way. So many takes also the new image of a store of the first version.
 pub record FewForTurns (parts : Parts) (R : Rows) (turns : List Turn) (beside looks steps : ℕ) : Type 0 where
   pub opened : ℕ
   pub opening : FewLooks parts looks opened

@@ -8,8 +8,7 @@ use Rattle.fsrm_outside.specs.Parts.{Parts}
 use Rattle.fsrm_store.specs.States.{state_of}
 use Rattle.fsrm_store.specs.States.State.{Holds}
 use Rattle.fsrm_session.specs.Turns.{Turn, rows_after, text_of}
-use Rattle.fsrm_session.specs.Underway.{Safe, ShowsSome, Stopped, Underway}
-use Rattle.fsrm_session.specs.declared.session.Session.{Session}
+use Rattle.fsrm_session.specs.Underway.{ShowsSome}
 use Rattle.fsrm_session.specs.declared.stop.Stop.{Stop}
 use Rattle.fsrm_modes.specs.Statuses.{of_stop}
 use Rattle.fsrm_modes.specs.declared.status.Status.{Status}
@@ -26,8 +25,3 @@ pub record TakesTurns {O : Type 0} (M : Members O) (K : Capacity) (R : Rows) (st
 abbrev pub ended_by : {T : Type 0} → Result T Stop → Result T Status
 ended_by (Ok x) = Ok x
 ended_by (Err stop) = Err (of_stop stop)
-
--- the turns were taken, or some first ones
-abbrev pub TookTurns : {O T : Type 0} → Members O → Result T Stop → Capacity → Rows → List Turn → List ℕ → Session → O → O → Type 0
-TookTurns M (Ok x) K R turns before session start now = Underway M K R turns (text_of R turns) before session now × Safe M K R turns before start now
-TookTurns M (Err stop) K R turns before session start now = Stopped M stop K R turns before session now × Safe M K R turns before start now

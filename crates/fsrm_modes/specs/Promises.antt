@@ -23,8 +23,8 @@ pub record Begins {O : Type 0} (M : Members O) (K : Capacity) (R : Rows) (before
   pub holds : state_of parts ≡ Holds K R
   pub shown : M.shown old ≡ Some before
 
--- A read ended the run. Of what was taken the lines that an LF ended were done, and their whole text is shown, unless a write
--- or the disk failed as well. A failed read took nothing more.
+-- A read ended the run. Of what was taken the lines that an LF ended were done, and their whole text is shown, unless a
+-- write or the disk failed as well. A failed read took nothing more.
 pub record ShowsEnded {O : Type 0} (M : Members O) (K : Capacity) (R : Rows) (status : Status) (script before : List ℕ) (old new : O) : Type 0 where
   pub ended : List (List ℕ)
   pub next : List ℕ
@@ -36,8 +36,8 @@ pub record ShowsEnded {O : Type 0} (M : Members O) (K : Capacity) (R : Rows) (st
   pub full : status ≡ TooLong → length (spelled_lines ended ++ next) ≡ longest_script
   pub shows : (Rose (M.write_faults old) (M.write_faults new) → ⊥) → (Rose (M.disk_faults old) (M.disk_faults new) → ⊥) → M.shown new ≡ Some (before ++ text_from K R 1 ended)
 
--- A run of `replay` over these rows: what is shown begins the text of the script, and at its end is all of it; then the disk
--- keeps the rows after all lines.
+-- A run of `replay` over these rows: what is shown begins the text of the script, and at its end is all of it; then the
+-- disk keeps the rows after all lines.
 pub record Replays {O : Type 0} (M : Members O) (K : Capacity) (R : Rows) (status : Status) (script before : List ℕ) (old new : O) : Type 0 where
   pub front : ShowsSome M (text K R script) before new
   pub whole : status ≡ Done → M.shown new ≡ Some (before ++ text K R script)

@@ -22,13 +22,14 @@ pub record Place : Type 0 where
 abbrev pub start : Place
 start = record { line = 1; held = [] }
 
--- What is held of the beginning of a line: all of one that may be read, and of a longer one two bytes more than that, of
--- which one may be a CR.
+-- What is held of the beginning of a line: all of one that may be read, and of a longer one two bytes more than that,
+-- of which one may be a CR.
 pub record IsHeld (line held : List ℕ) : Type 0 where
   pub kept : held ≡ take (longest_line + 2) line
   pub one_line : list_any is_end line ≡ false
 
--- A stream is these whole lines and the beginning of the next one, and leads from one place to the other. The lines are taken.
+-- A stream is these whole lines and the beginning of the next one, and leads from one place to the other. The lines are
+-- taken.
 pub record Leads {O : Type 0} (M : Members O) (K : Capacity) (from to : Place) (stream : List ℕ) (was now : Session) (old new : O) : Type 0 where
   pub ended : List (List ℕ)
   pub next : List ℕ

@@ -1,12 +1,13 @@
 -- The statuses of a run, and which counts of failed calls rose by them.
-use Rattle.std.specs.Prelude.{◌≡◌, ℕ, ◌≤◌, Bool, true, false, Result, Ok, Err}
-use Rattle.fsrm_session.specs.Counts.{Failing, StopCounts}
+use Rattle.std.specs.Prelude.{◌≡◌, ℕ, ◌≤◌, Result, Ok, Err}
+use Rattle.fsrm_outside.specs.Causes.{Rose}
+use Rattle.fsrm_session.specs.Counts.{Failing}
 use Rattle.fsrm_session.specs.declared.stop.Stop.{Stop}
 use Rattle.fsrm_session.specs.declared.stop.Stop.TheVariants as stops
 use Rattle.fsrm_store.specs.declared.fault.StoreFault.{StoreFault}
 use Rattle.fsrm_store.specs.declared.fault.StoreFault.TheVariants as faults
 use Rattle.fsrm_modes.specs.declared.status.Status.{Status}
-use Rattle.fsrm_modes.specs.declared.status.Status.TheVariants.{Done, Usage, ReadFault, WriteFault, DiskFault, TooLong, Damaged, NoMemory, NoStore, AlreadyStore}
+use Rattle.fsrm_modes.specs.declared.status.Status.TheVariants.{Done, ReadFault, WriteFault, DiskFault, TooLong, Damaged, NoMemory, NoStore, AlreadyStore}
 
 -- the status of a session that stopped
 abbrev pub of_stop : Stop → Status
@@ -30,6 +31,18 @@ IsReadEnd DiskFault = Unit {0}
 IsReadEnd TooLong = Unit {0}
 IsReadEnd NoMemory = Unit {0}
 IsReadEnd other = ⊥
+
+-- how turns may end that read no script
+abbrev pub IsOwnEnd : Status → Type 0
+IsOwnEnd WriteFault = Unit {0}
+IsOwnEnd DiskFault = Unit {0}
+IsOwnEnd NoMemory = Unit {0}
+IsOwnEnd other = ⊥
+
+-- the status of turns that ended
+abbrev pub status_of : {T : Type 0} → Result T Status → Status
+status_of (Ok x) = Done
+status_of (Err status) = status
 
 -- After these what is held is still made stable, and what waits is shown.
 abbrev pub IsSettled : Status → Type 0
@@ -70,6 +83,15 @@ KeepsDisk ReadFault before now = before ≤ now
 KeepsDisk TooLong before now = before ≤ now
 KeepsDisk NoMemory before now = before ≤ now
 KeepsDisk other before now = now ≡ before
+
+-- A fault is told only if a call failed, and no count of failed calls rose but by what the status tells.
+pub record RunCounts (status : Status) (r q w v d e : ℕ) : Type 0 where
+  pub read_fault : status ≡ ReadFault → Rose r q
+  pub write_fault : status ≡ WriteFault → Rose w v
+  pub disk_fault : status ≡ DiskFault → Rose d e
+  pub reads_kept : KeepsReads status r q
+  pub writes_kept : KeepsWrites status w v
+  pub disk_kept : KeepsDisk status d e
 
 -- the counts of writes and of calls of the disk, as a run that took all its lines ends by a status
 abbrev pub SettleCounts : Status → ℕ → ℕ → ℕ → ℕ → Type 0

@@ -24,14 +24,14 @@ abbrev pub commands_turns : Capacity → ℕ → List Command → List Turn
 commands_turns K line [] = []
 commands_turns K line (c ∷ commands) = command_turn K line c ∷ commands_turns K (line + 1) commands
 
--- a run over these rows: the jobs are told that have no schedule, and then those that are due there run, each in the order of
--- their numbers
+-- a run over these rows: the jobs are told that have no schedule, and then those that are due there run, each in the
+-- order of their numbers
 abbrev pub tick_turns : Capacity → Rows → ℕ → List Turn
 tick_turns K R moment = unread_turns (unread_names R.jobs) ++ commands_turns K 1 (due_runs moment R.jobs)
 
 -- ---- the rows after ticks
--- The jobs that were due ran at this moment, and no other did. Beside jobs only what may differ after each command: quotas,
--- for their peaks and their actions' last runs, the log of actions, and the last moment.
+-- The jobs that were due ran at this moment, and no other did. Beside jobs only what may differ after each command:
+-- quotas, for their peaks and their actions' last runs, the log of actions, and the last moment.
 pub record IsTicked (moment : ℕ) (R S : Rows) : Type 0 where
   pub jobs : S.jobs ≡ map (λ job. ticked job moment) R.jobs
   pub others : record S { quotas = R.quotas; jobs = R.jobs; acts = R.acts; last_moment = R.last_moment } ≡ R

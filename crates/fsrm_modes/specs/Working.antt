@@ -17,7 +17,7 @@ use Rattle.made_script.specs.Summary.{summary}
 use Rattle.fsrm_session.specs.Turns.{bytes_of, line_turns, said_turn, unshown, IsWithin, Turn}
 use Rattle.fsrm_session.specs.Underway.{ShowsSome}
 use Rattle.fsrm_modes.specs.declared.status.Status.{Status}
-use Rattle.fsrm_modes.specs.declared.status.Status.TheVariants.{Done, WriteFault, DiskFault, NoMemory}
+use Rattle.fsrm_modes.specs.declared.status.Status.TheVariants.{Done}
 
 -- lines that are numbered from a number on, of which nothing is shown
 abbrev pub unshown_lines : Capacity → ℕ → List (List ℕ) → List Turn
@@ -27,22 +27,16 @@ unshown_lines K number lines = map unshown (line_turns K number lines)
 abbrev pub work_turns : Capacity → Rows → ℕ → ℕ → List Turn
 work_turns K R seed count = unshown_lines K 1 (made_lines seed count) ++ said_turn (summary K R seed count) ∷ []
 
--- how the taking of the lines may end
-abbrev pub IsWorkEnd : Status → Type 0
-IsWorkEnd WriteFault = Unit {0}
-IsWorkEnd DiskFault = Unit {0}
-IsWorkEnd NoMemory = Unit {0}
-IsWorkEnd other = ⊥
-
--- What is shown begins the line that sums all up, and at the end is all of it; then the disk keeps the rows after all lines.
+-- What is shown begins the line that sums all up, and at the end is all of it; then the disk keeps the rows after all
+-- lines.
 pub record Works {O : Type 0} (M : Members O) (K : Capacity) (R : Rows) (status : Status) (seed count : ℕ) (before : List ℕ) (new : O) : Type 0 where
   pub front : ShowsSome M (summary K R seed count) before new
   pub whole : status ≡ Done → M.shown new ≡ Some (before ++ summary K R seed count)
   pub kept : status ≡ Done → (parts : Parts) × (M.reads new ≡ Some parts) × (state_of parts ≡ Holds K (lasting (fold_from K R 1 (made_lines seed count))))
 
--- Lines over the rows of these parts: the looks for opening them, those of the lines and their replies, and, for each 1 MiB of
--- records, of those that are there and those that it adds, 2 for each node of the largest volume on the way. So many takes also
--- the new image of a store of the first version.
+-- Lines over the rows of these parts: the looks for opening them, those of the lines and their replies, and, for each 1
+-- MiB of records, of those that are there and those that it adds, 2 for each node of the largest volume on the way. So
+-- many takes also the new image of a store of the first version.
 pub record FewForLines (parts : Parts) (K : Capacity) (R : Rows) (lines : List (List ℕ)) (looks steps : ℕ) : Type 0 where
   pub opened : ℕ
   pub opening : FewLooks parts looks opened

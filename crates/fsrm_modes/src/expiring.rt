@@ -1,42 +1,26 @@
 //! Moves old files into a folder.
 
-ghost use Rattle.std.specs.Prelude.{◌≡◌, ◌≢◌, ◌≤◌, ◌+◌, ◌*◌, length, ℕ, List, [], ◌∷◌, true, false, codes, decimal, Some, OnOk, IsErrOf, MatchOption, MatchResult};
-ghost use Rattle.std.specs.Option.{ForSome};
+ghost use Rattle.std.specs.Prelude.{◌≡◌, ◌≤◌, ◌+◌, ◌*◌, length, [], ◌∷◌, true, false, codes, decimal, Some, OnOk, IsErrOf, MatchOption, MatchResult};
 ghost use Rattle.fsrm_model.specs.commands.Cost.{path_cost};
-ghost use Rattle.fsrm_model.specs.declared.row.Capacity.{Capacity};
-ghost use Rattle.fsrm_model.specs.declared.row.Rows.{Rows};
 ghost use Rattle.fsrm_model.specs.nodes.FileOps.{target};
 ghost use Rattle.fsrm_model.specs.nodes.Leads.{leads_to_folder};
 ghost use Rattle.fsrm_model.specs.nodes.Tree.{is_folder};
 ghost use Rattle.fsrm_model.specs.store.Valid.{is_moment};
 ghost use Rattle.fsrm_model.specs.texts.Printed.{line_of};
-ghost use Rattle.fsrm_outside.specs.Causes.{Rose};
-ghost use Rattle.fsrm_outside.specs.Runs.{CrashSafe};
 ghost use Rattle.fsrm_session.specs.Counts.{Counts};
-ghost use Rattle.fsrm_session.specs.Covers.{Covers};
 ghost use Rattle.fsrm_session.specs.Members.{members};
-ghost use Rattle.fsrm_session.specs.Spending.{bytes_after, renewing, Spends};
-ghost use Rattle.fsrm_session.specs.Turns.{bytes_of, looks_of, said_turn, IsWithin};
-ghost use Rattle.fsrm_session.specs.Underway.{CanFlush, CanTake, Goes, Stops, Underway};
+ghost use Rattle.fsrm_session.specs.Spending.{bytes_after, Spends};
+ghost use Rattle.fsrm_session.specs.Turns.{said_turn};
+ghost use Rattle.fsrm_session.specs.Underway.{CanFlush, CanTake, Goes, Stops};
 ghost use Rattle.file_jobs.specs.Moves.{is_file, move_of, moved_path, AreFiles};
-ghost use Rattle.fsrm_store.specs.Amortized.{bytes_since, Amortized};
-ghost use Rattle.fsrm_store.specs.Standing.{IsReady};
-ghost use Rattle.fsrm_modes.specs.Answers.{HoldsNone, IsQuiet, TellsStore};
 ghost use Rattle.fsrm_modes.specs.Expiry.{expire_cost, expire_turns, file_cost, file_turns, files_cost, files_turns, move_line, moving_turn, skipped_line};
-ghost use Rattle.fsrm_modes.specs.Looks.{FewForTurns};
-ghost use Rattle.fsrm_modes.specs.OwnTurns.{ended_by, TakesTurns, TookTurns};
-ghost use Rattle.fsrm_modes.specs.Promises.{Begins};
-ghost use Rattle.fsrm_modes.specs.Statuses.{KeepsDisk, KeepsWrites};
 
 use crate::answering::take_read;
-use crate::replay::conclude;
-use crate::status::Status;
 use file_jobs::{Expiry, move_of, plan};
 use fsrm_engine::Engine;
 use fsrm_model::{Command, Deed, Ledger, NoMemory, Path, Refusal, Steps};
 use fsrm_outside::Outside;
 use fsrm_session::{Session, Stop};
-use fsrm_store::Store;
 use line_parts::Part;
 use std::alloc::Global;
 
@@ -59,79 +43,6 @@ struct Mover {
     moment: u64,
 }
 
-/// Moves the old files of a folder into another one, each by a command. The files are those that expire over the rows at
-/// entry, in the order of their numbers; the K-th one, from 1 on, is told as `K move PATH`, and then the reply has the
-/// number K. A file whose two paths have more than 65,000 bytes together is skipped. If one of the two folders isn't there,
-/// nothing but `0 refused PathNotFound` is told.
-pub fn expire<O: Outside, L: Ledger>(
-    alloc: Global,
-    outside: &mut O,
-    ask: &ExpireAsk,
-    steps: &mut Steps<L>,
-) -> Status
-    requires moment { is_moment ask.now.expiry.moment ≡ true }
-    ensures runs { (K : Capacity) (R : Rows) (before : List ℕ) → Begins (members O.Source O.Sink O.Disk) K R before outside.old
-        → TakesTurns (members O.Source O.Sink O.Disk) K R result (expire_turns K R ask.now) before outside.new }
-    ensures crash { (K : Capacity) (R : Rows) (before : List ℕ) (start : ℕ) → Begins (members O.Source O.Sink O.Disk) K R before outside.old
-        → O.disk_clock outside.old ≡ Some start → O.sink_clock outside.old ≡ Some start → CrashSafe (members O.Source O.Sink O.Disk) (Covers K R (expire_turns K R ask.now)) start outside.old outside.new }
-    ensures store { ForSome (O.reads outside.old) (λ parts. TellsStore parts result) }
-    ensures quiet { ForSome (O.reads outside.old) (λ parts. HoldsNone parts → IsQuiet (members O.Source O.Sink O.Disk) outside.old outside.new) }
-    ensures left { O.left outside.new ≡ O.left outside.old }
-    ensures write_fault { result ≡ Status.WriteFault → Rose (O.write_faults outside.old) (O.write_faults outside.new) }
-    ensures disk_fault { result ≡ Status.DiskFault → Rose (O.disk_faults outside.old) (O.disk_faults outside.new) }
-    ensures reads_kept { O.read_faults outside.new ≡ O.read_faults outside.old }
-    ensures writes_kept { KeepsWrites result (O.write_faults outside.old) (O.write_faults outside.new) }
-    ensures disk_kept { KeepsDisk result (O.disk_faults outside.old) (O.disk_faults outside.new) }
-    ensures only { (result ≢ Status.Usage) × (result ≢ Status.AlreadyStore) × (result ≢ Status.TooLong) × (result ≢ Status.ReadFault) }
-    ensures looks { (K : Capacity) (R : Rows) (before : List ℕ) → (begins : Begins (members O.Source O.Sink O.Disk) K R before outside.old) → FewForTurns begins.parts R (expire_turns K R ask.now) (expire_cost K R ask.now) steps.old steps.new }
-{
-    let store = match Store::recover(alloc, outside, steps) {
-        Ok(opened) => opened,
-        Err(fault) => return Status::from(fault),
-    };
-    let mut session = Session::new(alloc, store);
-    let taken = take_moves(&mut session, outside, alloc, ask, steps);
-    let ended = told(taken);
-    conclude(&mut session, outside, ended, steps)
-}
-
-// How the run ends.
-pub(crate) fn told(taken: Result<(), Stop>) -> Result<(), Status>
-    ensures { result ≡ ended_by taken }
-{
-    match taken {
-        Ok(()) => Ok(()),
-        Err(stop) => Err(Status::from(stop)),
-    }
-}
-
-// Moves the files, once the store may be written to. Each move is made stable before its reply is told.
-fn take_moves<O: Outside, L: Ledger>(
-    session: &mut Session,
-    outside: &mut O,
-    alloc: Global,
-    ask: &ExpireAsk,
-    steps: &mut Steps<L>,
-) -> Result<(), Stop>
-    requires moment { is_moment ask.now.expiry.moment ≡ true }
-    requires sound { session.old.store.sound ≡ true }
-    requires idle { session.old.store.engine.waiting ≡ [] }
-    requires none { session.old.store.journal.held ≡ 0 }
-    requires ready { IsReady O.reads session.old.store.journal outside.old }
-    ensures took { (K : Capacity) (R : Rows) (before : List ℕ) → Underway (members O.Source O.Sink O.Disk) K R [] [] before session.old outside.old
-        → TookTurns (members O.Source O.Sink O.Disk) result K R (expire_turns K R ask.now) before session.new outside.old outside.new }
-    ensures ready { OnOk result (CanFlush O.reads session.new outside.new) }
-    ensures memory { IsErrOf result Stop.NoMemory → CanFlush O.reads session.new outside.new }
-    ensures counts { Counts result (O.write_faults outside.old) (O.write_faults outside.new) (O.disk_faults outside.old) (O.disk_faults outside.new) }
-    ensures reads { O.read_faults outside.new ≡ O.read_faults outside.old }
-    ensures left { O.left outside.new ≡ O.left outside.old }
-    ensures looks { (K : Capacity) (R : Rows) (before : List ℕ) → Underway (members O.Source O.Sink O.Disk) K R [] [] before session.old outside.old → (most : ℕ) → IsWithin most R (expire_turns K R ask.now)
-        → Amortized most (((steps.old + renewing session.old.store) + expire_cost K R ask.now) + looks_of R (expire_turns K R ask.now)) steps.new (bytes_since session.old.store.journal + bytes_of R (expire_turns K R ask.now)) (bytes_after result session.new) }
-{
-    session.begin(outside, 1, steps)?;
-    move_expired(session, outside, alloc, ask, steps)
-}
-
 // The folder that a path leads to.
 fn folder_at<L: Ledger>(engine: &Engine, path: &Path, steps: &mut Steps<L>) -> Option<u32>
     ensures leads { MatchOption result (leads_to_folder engine.now.rows.nodes path.now ≡ false) (λ folder. (leads_to_folder engine.now.rows.nodes path.now ≡ true) × (folder ≡ target engine.now.rows.nodes path.now) × (is_folder engine.now.rows.nodes folder ≡ true)) }
@@ -146,8 +57,11 @@ fn folder_at<L: Ledger>(engine: &Engine, path: &Path, steps: &mut Steps<L>) -> O
     }
 }
 
-// Finds the files that expire, and moves them.
-fn move_expired<O: Outside, L: Ledger>(
+/// Moves the old files of a folder into another one, each by a command. The files are those that expire over the rows
+/// at entry, in the order of their numbers; the K-th one, from 1 on, is told as `K move PATH`, and then the reply has
+/// the number K. A file whose two paths have more than 65,000 bytes together is skipped. If one of the two folders
+/// isn't there, nothing but `0 refused PathNotFound` is told.
+pub fn move_expired<O: Outside, L: Ledger>(
     session: &mut Session,
     outside: &mut O,
     alloc: Global,

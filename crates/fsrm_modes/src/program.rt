@@ -33,13 +33,11 @@ ghost use Rattle.fsrm_modes.specs.Ticks.{tick_turns};
 ghost use Rattle.fsrm_modes.specs.Views.{outbox_cost};
 ghost use Rattle.fsrm_modes.specs.Working.{work_turns, FewForLines, Works};
 
-use crate::expiring::{ExpireAsk, expire};
+use crate::expiring::ExpireAsk;
 use crate::init::init;
-use crate::replay::replay;
 use crate::show::{View, show};
 use crate::status::Status;
-use crate::ticking::tick;
-use crate::work::work;
+use crate::tasks::{Task, serve};
 use file_jobs::Expiry;
 use fsrm_model::{Ledger, Steps};
 use fsrm_outside::Outside;
@@ -47,9 +45,9 @@ use program_words::{Mode, WordsFault, read_words};
 use std::alloc::Global;
 
 /// Does what the words ask for: `init` makes a store, `replay` runs the script that the source has left over the store,
-/// `show` writes the list of its quotas, `outbox` the latest notice of each action that ran at a moment or later, `work` runs
-/// a script that is made from a number, `expire` moves old files of a folder into another one, and `tick` runs the report
-/// jobs that are due.
+/// `show` writes the list of its quotas, `outbox` the latest notice of each action that ran at a moment or later,
+/// `work` runs a script that is made from a number, `expire` moves old files of a folder into another one, and `tick`
+/// runs the report jobs that are due.
 ///
 /// Clauses on what is read, shown and kept hold if the devices tell it.
 pub fn run<O: Outside, L: Ledger>(
@@ -61,19 +59,21 @@ pub fn run<O: Outside, L: Ledger>(
     // ---- `replay`: what is shown begins the script's text, and at Done is all of it, and is kept.
     ensures replay { (group : ℕ) (K : Capacity) (R : Rows) (script before : List ℕ) → mode (map string_bytes words.now) ≡ Some (Replay group) → O.left outside.old ≡ Some script → Begins (members O.Source O.Sink O.Disk) K R before outside.old
         → Replays (members O.Source O.Sink O.Disk) K R result script before outside.old outside.new }
-    // Up to some moment nothing is shown, and a crash leaves what it might have left at entry; from then on what is kept of some first lines, which hold all
-    // whose replies are shown.
+    // Up to some moment nothing is shown, and a crash leaves what it might have left at entry; from then on what is
+    // kept of some first lines, which hold all whose replies are shown.
     ensures crash { (group : ℕ) (K : Capacity) (R : Rows) (script before : List ℕ) (start : ℕ) → mode (map string_bytes words.now) ≡ Some (Replay group) → O.left outside.old ≡ Some script → Begins (members O.Source O.Sink O.Disk) K R before outside.old
         → O.disk_clock outside.old ≡ Some start → O.sink_clock outside.old ≡ Some start → CrashSafe (members O.Source O.Sink O.Disk) (Covers K R (script_turns K script)) start outside.old outside.new }
     // ---- `show`: the list of all quotas.
     ensures show { (K : Capacity) (R : Rows) (before : List ℕ) → mode (map string_bytes words.now) ≡ Some Show → Begins (members O.Source O.Sink O.Disk) K R before outside.old
         → Shows (members O.Source O.Sink O.Disk) (list_lines K R (Quotas None)) result before outside.new }
-    // ---- `outbox`: two lines for each notice since a moment, with its text as the macros in it stand for what the store holds.
+    // ---- `outbox`: two lines for each notice since a moment, with its text as the macros in it stand for what the
+    // store holds.
     ensures outbox { (since : ℕ) (K : Capacity) (R : Rows) (before : List ℕ) → mode (map string_bytes words.now) ≡ Some (Outbox since) → Begins (members O.Source O.Sink O.Disk) K R before outside.old
         → Shows (members O.Source O.Sink O.Disk) (outbox_text K R since) result before outside.new }
     // Neither of the two writes anything to the disk.
     ensures unwritten { (asked : Mode) → mode (map string_bytes words.now) ≡ Some asked → WritesNothing asked → (O.reads outside.new ≡ O.reads outside.old) × Through O.disk_clock O.images Same outside.old outside.new }
-    // ---- `work`: the line that sums up the replies to a made script; at Done the store keeps the rows after the script.
+    // ---- `work`: the line that sums up the replies to a made script; at Done the store keeps the rows after the
+    // script.
     ensures work { (seed count : ℕ) (K : Capacity) (R : Rows) (before : List ℕ) → mode (map string_bytes words.now) ≡ Some (Work seed count) → Begins (members O.Source O.Sink O.Disk) K R before outside.old
         → Works (members O.Source O.Sink O.Disk) K R result seed count before outside.new }
     // What a crash leaves is as of `replay`: the line is shown once all lines of the script are kept.
@@ -121,8 +121,8 @@ pub fn run<O: Outside, L: Ledger>(
     // Over devices that don't fail all is done, unless memory runs out or the script has more than 2^32 bytes.
     ensures complete { (asked : Mode) (parts : Parts) (script : List ℕ) → mode (map string_bytes words.now) ≡ Some asked → O.reads outside.old ≡ Some parts → O.left outside.old ≡ Some script → IsReadyOver asked parts → length script ≤ longest_script
         → (Rose (O.read_faults outside.old) (O.read_faults outside.new) → ⊥) → (Rose (O.write_faults outside.old) (O.write_faults outside.new) → ⊥) → (Rose (O.disk_faults outside.old) (O.disk_faults outside.new) → ⊥) → IsDoneOrNoMemory result }
-    // ---- looks at nodes: those for opening the store, and those of the script's lines, of the list or of the notices; and for
-    // each 1 MiB of records 2 for each node. `init` takes none, nor do words that ask for nothing.
+    // ---- looks at nodes: those for opening the store, and those of the script's lines, of the list or of the notices;
+    // and for each 1 MiB of records 2 for each node. `init` takes none, nor do words that ask for nothing.
     ensures looks { (group : ℕ) (K : Capacity) (R : Rows) (script before : List ℕ) → mode (map string_bytes words.now) ≡ Some (Replay group) → O.left outside.old ≡ Some script → (begins : Begins (members O.Source O.Sink O.Disk) K R before outside.old)
         → FewForScript begins.parts K R script steps.old steps.new }
     ensures show_looks { (K : Capacity) (R : Rows) (before : List ℕ) → mode (map string_bytes words.now) ≡ Some Show → (begins : Begins (members O.Source O.Sink O.Disk) K R before outside.old) → FewToShow begins.parts (list_cost R (Quotas None)) steps.old steps.new }
@@ -136,10 +136,10 @@ pub fn run<O: Outside, L: Ledger>(
 {
     match read_words(alloc, words) {
         Ok(Mode::Init { size }) => init(alloc, outside, size),
-        Ok(Mode::Replay { group }) => replay(alloc, outside, group, steps),
+        Ok(Mode::Replay { group }) => serve(alloc, outside, Task::Script { group }, steps),
         Ok(Mode::Show) => show(alloc, outside, View::Quotas, steps),
         Ok(Mode::Outbox { since }) => show(alloc, outside, View::Outbox { since }, steps),
-        Ok(Mode::Work { seed, count }) => work(alloc, outside, seed, count, steps),
+        Ok(Mode::Work { seed, count }) => serve(alloc, outside, Task::Made { seed, count }, steps),
         Ok(
             Mode::Expire {
                 from,
@@ -155,9 +155,9 @@ pub fn run<O: Outside, L: Ledger>(
                 moment,
             };
             let ask = ExpireAsk { from, to, expiry };
-            expire(alloc, outside, &ask, steps)
+            serve(alloc, outside, Task::Moves(&ask), steps)
         }
-        Ok(Mode::Tick { moment }) => tick(alloc, outside, moment, steps),
+        Ok(Mode::Tick { moment }) => serve(alloc, outside, Task::Jobs { moment }, steps),
         Err(WordsFault::Usage) => Status::Usage,
         Err(WordsFault::NoMemory) => Status::NoMemory,
     }

@@ -25,8 +25,8 @@ use std::alloc::Global;
 
 const PIECE: usize = 65_536;
 
-/// Reads the script that the source has left to its end, and has its lines taken, from the first one on. At each piece's
-/// end what may be shown is shown.
+/// Reads the script that the source has left to its end, and has its lines taken, from the first one on. At each
+/// piece's end what may be shown is shown.
 pub fn read_script<O: Outside, L: Ledger>(
     session: &mut Session,
     outside: &mut O,
@@ -82,8 +82,8 @@ fn read_lines<O: Outside, L: Ledger>(
     }
 }
 
-// Reads a piece, has the lines taken that end in it, and shows what may be shown. It answers the piece's length: 0 at the
-// script's end.
+// Reads a piece, has the lines taken that end in it, and shows what may be shown. It answers the piece's length: 0 at
+// the script's end.
 fn pass<O: Outside, L: Ledger>(
     lines: &mut Lines,
     session: &mut Session,

@@ -260,13 +260,23 @@ bare_cost K R moment NamesFull bare = refl
 bare_cost K R moment TableFull bare = refl
 bare_cost K R moment TextsFull bare = refl
 
+-- so to tell it takes none
+pub bare_free : (K : Capacity) (R : Rows) (waiting : List Act) (refusal : Refusal) (looks steps : ℕ) → is_bare refusal ≡ true → waiting ≡ [] → steps ≤ looks + telling_cost K R waiting 0 (Refused refusal) → steps ≤ looks
+bare_free K R waiting refusal looks steps bare none few =
+    let acts : acts_cost R.nodes waiting ≡ 0 = ap (acts_cost R.nodes) none in
+    omega (arith, few, acts, bare_cost K R 0 refusal bare)
+
+-- turns that took no looks and no bytes
+pub spends_none : {O : Type 0} {M : Members O} (turns : List Turn) (was next : Session) (old : O) (looks steps left : ℕ) → next.store.journal ≡ was.store.journal → left ≤ bytes_since next.store.journal → steps ≤ looks → Spends M turns was old looks steps left
+spends_none turns was next old looks steps left same less few =
+    let rows = was.store.engine.rows in
+    record {
+      spends = λ K R done before u most within.
+          no_image most (looks + looks_of rows turns) steps (bytes_since was.store.journal + bytes_of rows turns) left (omega (arith, few)) (omega (arith, less, ap bytes_since same));
+    }
+
 -- its refusal takes none
 pub spends_refused : {O : Type 0} {M : Members O} (turns : List Turn) (was next : Session) (old : O) (waiting : List Act) (refusal : Refusal) (looks steps left : ℕ) → is_bare refusal ≡ true → waiting ≡ [] → next.store.journal ≡ was.store.journal → left ≤ bytes_since next.store.journal
     → steps ≤ looks + telling_cost was.store.engine.size was.store.engine.rows waiting 0 (Refused refusal) → Spends M turns was old looks steps left
 spends_refused turns was next old waiting refusal looks steps left bare none same less few =
-    let rows = was.store.engine.rows in
-    let acts : acts_cost rows.nodes waiting ≡ 0 = ap (acts_cost rows.nodes) none in
-    record {
-      spends = λ K R done before u most within.
-          no_image most (looks + looks_of rows turns) steps (bytes_since was.store.journal + bytes_of rows turns) left (omega (arith, few, acts, bare_cost was.store.engine.size rows 0 refusal bare)) (omega (arith, less, ap bytes_since same));
-    }
+    spends_none turns was next old looks steps left same less (bare_free was.store.engine.size was.store.engine.rows waiting refusal looks steps bare none few)

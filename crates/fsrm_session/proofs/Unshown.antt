@@ -24,13 +24,13 @@ use Rattle.reply_text.specs.declared.replies.Line.{Line}
 use Rattle.made_script.specs.Tally.{accepts, one_reply, tally_of}
 use Rattle.made_script.specs.declared.tally.Tally.{Tally}
 use Rattle.fsrm_session.specs.Spending.{Spends}
-use Rattle.fsrm_session.specs.Turns.{Turn, told, unshown}
+use Rattle.fsrm_session.specs.Turns.{Turn, refused_turn, told, unshown}
 use Rattle.fsrm_session.specs.Underway.{Enters, Goes, Stops}
 use Rattle.fsrm_session.specs.declared.session.Session.{Session}
 use Rattle.fsrm_session.specs.declared.stop.Stop.{Stop}
 use Rattle.fsrm_session.specs.declared.stop.Stop.TheVariants.{NoMemory}
 use Rattle.fsrm_session.proofs.Entering.{said_told}
-use Rattle.fsrm_session.proofs.Going.{enters_stops, enters_tells}
+use Rattle.fsrm_session.proofs.Going.{enters_stops, enters_tells, idle_enters}
 use Rattle.fsrm_session.proofs.Handing.{told_alone}
 use Rattle.fsrm_session.proofs.Told.{kept_tells, tells_stops}
 
@@ -94,6 +94,13 @@ counted_goes {M = M} (Err e) turn a b c first mid laws said p alike kept only =
     let full : e ≡ NoMemory = cc in
     subst (λ (s : Stop). Stops M s (turn ∷ []) a c first mid) (sym full)
     (enters_stops NoMemory turn [] a b c first mid mid laws said p (tells_stops NoMemory [] [] b c mid mid ([], refl) (kept_tells [] b c mid laws alike (kept ∙ sym (append-nil b.kept.items)))))
+
+-- so is a refusal that is counted
+pub refused_goes : {O T : Type 0} {M : Members O} (r : Result T Stop) (number : ℕ) (refusal : Refusal) (was next : Session) (now : O) → Laws M → StandsAlike was.store next.store → next.kept ≡ was.kept → OnErr r (r ≡ Err NoMemory)
+    → MatchResult r (λ x. Goes M (unshown (refused_turn was.store.engine.size number refusal) ∷ []) was next now now) (λ e. Stops M e (unshown (refused_turn was.store.engine.size number refusal) ∷ []) was next now now)
+refused_goes r number refusal was next now laws alike kept only =
+    let turn = unshown (refused_turn was.store.engine.size number refusal) in
+    counted_goes r turn was was next now now laws refl (idle_enters turn was now laws (λ R. refl)) alike (ap (λ v. v.items) kept) only
 
 -- it takes what it took shown
 pub unshown_spends : {O : Type 0} {M : Members O} (turn : Turn) (was : Session) (old : O) (looks steps left : ℕ) → Spends M (turn ∷ []) was old looks steps left → Spends M (unshown turn ∷ []) was old looks steps left

@@ -14,8 +14,8 @@ use Rattle.fsrm_model.specs.texts.Text.{reply}
 use Rattle.fsrm_store.specs.Amortized.{entries_bytes}
 use Rattle.reply_text.specs.declared.replies.Line.{Line}
 
--- What a turn shows, the rows after it, how many looks at nodes it may take, and the bytes of its records, each by the rows
--- before it.
+-- What a turn shows, the rows after it, how many looks at nodes it may take, and the bytes of its records, each by the
+-- rows before it.
 pub record Turn : Type 0 where
   pub said : Rows → List ℕ
   pub after : Rows → Rows

@@ -31,8 +31,8 @@ pub record CanTake {D : Type 0} (reads : D → Option Parts) (session : Session)
 abbrev pub ShowsSome : {O : Type 0} → Members O → List ℕ → List ℕ → O → Type 0
 ShowsSome M words before now = (front : List ℕ) × (M.shown now ≡ Some (before ++ front)) × IsFront front words
 
--- These turns were taken over the rows R. Of their text these words were told so far, of which some are shown and the rest
--- waits. What is shown is of first turns of which all is on the disk.
+-- These turns were taken over the rows R. Of their text these words were told so far, of which some are shown and the
+-- rest waits. What is shown is of first turns of which all is on the disk.
 pub record Underway {O : Type 0} (M : Members O) (K : Capacity) (R : Rows) (turns : List Turn) (words before : List ℕ) (session : Session) (now : O) : Type 0 where
   pub first : List Turn
   pub later : List Turn

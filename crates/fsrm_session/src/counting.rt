@@ -10,7 +10,7 @@ ghost use Rattle.made_script.specs.Tally.{accepts, one_reply, tally_of};
 ghost use Rattle.fsrm_session.specs.Counts.{Counts};
 ghost use Rattle.fsrm_session.specs.Members.{members};
 ghost use Rattle.fsrm_session.specs.Spending.{bytes_after, Spends};
-ghost use Rattle.fsrm_session.specs.Turns.{command_turn, refused_turn, telling_cost, told, unshown};
+ghost use Rattle.fsrm_session.specs.Turns.{command_turn, telling_cost, told, unshown};
 ghost use Rattle.fsrm_session.specs.Underway.{CanFlush, CanTake, Goes, Stops};
 
 use crate::kept::Kept;
@@ -30,7 +30,8 @@ fn accepts(outcome: &Outcome) -> bool
 }
 
 impl Session {
-    // Counts the reply to a command that was taken, and its acts. They are written to memory, and dropped.
+    // Counts the reply to a command that was taken, and its acts. They are written to memory, where the next reply will
+    // be written over them.
     fn tally<L: Ledger>(
         &mut self,
         line: Line,
@@ -47,9 +48,9 @@ impl Session {
         ensures journal { KeepsJournal self.old.store self.new.store }
         ensures looks { steps.new ≤ steps.old + telling_cost self.old.store.engine.size self.old.store.engine.rows self.old.store.engine.waiting line.moment answer.now.outcome }
     {
-        let mut made = Vec::new(self.alloc);
+        self.scratch.clear();
         let mut text = Kept {
-            bytes: &mut made,
+            bytes: &mut self.scratch,
             faults: 0,
         };
         match write_reply(&mut self.store, self.alloc, &mut text, line, answer, steps) {
@@ -61,8 +62,8 @@ impl Session {
         }
     }
 
-    /// Takes a command, keeps it if it lasts, and answers what its reply comes to, if its line had this number. Nothing of
-    /// it is shown.
+    /// Takes a command, keeps it if it lasts, and answers what its reply comes to, if its line had this number. Nothing
+    /// of it is shown.
     pub fn count<O: Outside, L: Ledger>(
         &mut self,
         outside: &mut O,
@@ -96,27 +97,24 @@ impl Session {
         }
     }
 
-    /// Answers what the refusal of a line comes to that no command could be read from. Nothing of it is shown.
-    pub fn count_refusal<O: Outside, L: Ledger>(
+    /// Answers what the refusal of a line comes to that no command could be read from. Nothing of it is shown, and
+    /// nothing outside is asked.
+    pub fn count_refusal<L: Ledger>(
         &mut self,
-        outside: &O,
         number: u64,
         refusal: Refusal,
         steps: &mut Steps<L>,
     ) -> Result<Tally, Stop>
-        requires ready { CanTake O.reads self.old outside.now }
+        requires idle { self.old.store.engine.waiting ≡ [] }
         requires bare { is_bare refusal ≡ true }
-        ensures runs { MatchResult result (λ _. Goes (members O.Source O.Sink O.Disk) (unshown (refused_turn self.old.store.engine.size number refusal) ∷ []) self.old self.new outside.now outside.now) (λ stop. Stops (members O.Source O.Sink O.Disk) stop (unshown (refused_turn self.old.store.engine.size number refusal) ∷ []) self.old self.new outside.now outside.now) }
         ensures tally { IfOk result (λ tally. tally ≡ tally_of self.old.store.engine.size self.old.store.engine.rows number (Some (Err refusal))) }
-        ensures rows { self.new.store.engine.rows ≡ self.old.store.engine.rows }
         ensures only { OnErr result (result ≡ Err Stop.NoMemory) }
-        ensures ready { OnOk result (CanTake O.reads self.new outside.now) }
-        ensures memory { IsErrOf result Stop.NoMemory → CanFlush O.reads self.new outside.now }
-        ensures size { self.new.store.engine.size ≡ self.old.store.engine.size }
-        ensures looks { Spends (members O.Source O.Sink O.Disk) (unshown (refused_turn self.old.store.engine.size number refusal) ∷ []) self.old outside.now steps.old steps.new (bytes_after result self.new) }
+        ensures idle { OnOk result (self.new.store.engine.waiting ≡ []) }
+        ensures kept { self.new.kept ≡ self.old.kept }
+        ensures stands { StandsAlike self.old.store self.new.store }
+        ensures journal { KeepsJournal self.old.store self.new.store }
+        ensures looks { steps.new ≤ steps.old }
     {
-        // The call is made for what is outside, which stays.
-        let _outside = outside;
         let answer = Answer {
             outcome: Outcome::Refused(refusal),
             lasting: false,

@@ -64,8 +64,8 @@ fn write_outcome<S: Sink, L: Ledger>(
     }
 }
 
-/// Writes the reply to the command of a line, which was taken, and the acts that it set off. It answers how many acts there
-/// were, up to `u64::MAX`.
+/// Writes the reply to the command of a line, which was taken, and the acts that it set off. It answers how many acts
+/// there were, up to `u64::MAX`.
 pub fn write_reply<S: Sink, L: Ledger>(
     store: &mut Store,
     alloc: Global,

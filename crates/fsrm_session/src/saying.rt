@@ -80,8 +80,8 @@ impl Session {
         }
     }
 
-    /// Says a text that acknowledges nothing: it tells of no command, and is shown when that is convenient, but after all
-    /// that was told before it.
+    /// Says a text that acknowledges nothing: it tells of no command, and is shown when that is convenient, but after
+    /// all that was told before it.
     pub fn say<O: Outside, L: Ledger>(
         &mut self,
         outside: &mut O,

@@ -22,6 +22,8 @@ pub struct Session {
     pub(crate) store: Store,
     pub(crate) kept: Vec<u8>,
     pub(crate) alloc: Global,
+    // A reply that is only counted is written here, in place of the one before it.
+    pub(crate) scratch: Vec<u8>,
 }
 
 impl Session {
@@ -34,6 +36,7 @@ impl Session {
             store,
             kept: Vec::new(alloc),
             alloc,
+            scratch: Vec::new(alloc),
         }
     }
 
@@ -73,8 +76,8 @@ impl Session {
         }
     }
 
-    /// Before the first command: an old store is given a new image, which makes it version 2, and from now on up to `group`
-    /// entries, 1 to 1,024, are made stable at once.
+    /// Before the first command: an old store is given a new image, which makes it version 2, and from now on up to
+    /// `group` entries, 1 to 1,024, are made stable at once.
     pub fn begin<O: Outside, L: Ledger>(
         &mut self,
         outside: &mut O,

@@ -66,6 +66,7 @@ impl Session {
         ensures runs { MatchResult result (λ _. Calms (members O.Source O.Sink O.Disk) self.old self.new outside.old outside.new) (λ stop. Breaks (members O.Source O.Sink O.Disk) stop self.old self.new outside.old outside.new) }
         ensures ready { OnOk result (CanFlush O.reads self.new outside.new) }
         ensures store { self.new.store ≡ self.old.store }
+        ensures empty { self.old.store.journal.held ≡ 0 → OnOk result (self.new.kept.items ≡ []) }
         ensures memory { IsErrOf result Stop.NoMemory → ⊥ }
         ensures counts { Counts result (O.write_faults outside.old) (O.write_faults outside.new) (O.disk_faults outside.old) (O.disk_faults outside.new) }
         ensures reads { O.read_faults outside.new ≡ O.read_faults outside.old }

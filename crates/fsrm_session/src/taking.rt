@@ -19,8 +19,8 @@ use fsrm_outside::Outside;
 use fsrm_store::StoreFault;
 use reply_text::Line;
 
-// Whether a command's reply may be long: a list, a sum, or a report. All before it is made stable and shown first, so it needn't
-// wait in memory.
+// Whether a command's reply may be long: a list, a sum, or a report. All before it is made stable and shown first, so
+// it needn't wait in memory.
 fn is_long(deed: &Deed) -> bool {
     match deed {
         Deed::Usage { .. } => true,
@@ -97,8 +97,9 @@ impl Session {
         }
     }
 
-    /// Takes a command, keeps it if it lasts, and tells its reply and acts. Its line has this number. The reply to a command
-    /// that is kept is shown once the command is. After it less than 1 MiB of text waits, as after each call that tells.
+    /// Takes a command, keeps it if it lasts, and tells its reply and acts. Its line has this number. The reply to a
+    /// command that is kept is shown once the command is. After it less than 1 MiB of text waits, as after each call
+    /// that tells.
     pub fn take<O: Outside, L: Ledger>(
         &mut self,
         outside: &mut O,

@@ -9,8 +9,8 @@ use Rattle.program_words.specs.declared.modes.Mode.{Mode}
 use Rattle.program_words.specs.declared.modes.Mode.TheVariants.{Init, Replay, Show, Outbox, Work, Expire, Tick}
 use Rattle.fsrm_modes.specs.Answers.{most_taken}
 use Rattle.fsrm_modes.proofs.ReplayEnds.{none_taken}
-use Rattle.fsrm_modes.proofs.RunEnds.{disk_counted, init_fits, init_not, legal_expiry, legal_group, legal_size, legal_tick, reads_stay, replay_fits, unread_fits, writes_stay}
-use Rattle.fsrm_modes.proofs.Serving.{not_asked, not_read, served, unread}
+use Rattle.fsrm_modes.proofs.RunEnds.{disk_counted, init_fits, init_not, legal_expiry, legal_group, legal_size, legal_tick, reads_stay, unread_fits, writes_stay}
+use Rattle.fsrm_modes.proofs.Serving.{not_asked, not_read, own_turns, served, task_served, unread}
 use Rattle.fsrm_modes.proofs.program.run.Given as given
 use Rattle.fsrm_modes.proofs.program.run.Goals as goal
 
@@ -20,15 +20,17 @@ object g = members g.O.Source g.O.Sink g.O.Disk
 pub init-requires : goal.init-requires
 init-requires g c = record { legal = legal_size c.in-Ok-Init.field-0 c.in-Ok-Init.size c.in-Ok-Init.field-0-is c.in-Ok-Init.ensures.legal }
 
-pub replay-requires : goal.replay-requires
-replay-requires g c =
-    let legal = legal_group c.in-Ok-Replay.field-0 c.in-Ok-Replay.group c.in-Ok-Replay.field-0-is c.in-Ok-Replay.ensures.legal in record { few = legal.0; most = legal.1 }
+pub serve-requires : goal.serve-requires
+serve-requires g c = record { fit = legal_group c.in-Ok-Replay.field-0 c.in-Ok-Replay.group c.in-Ok-Replay.field-0-is c.in-Ok-Replay.ensures.legal }
 
-pub expire-requires : goal.expire-requires
-expire-requires g c = record { moment = legal_expiry c.in-Ok-Expire.field-0 c.in-Ok-Expire.from c.in-Ok-Expire.to c.in-Ok-Expire.days c.in-Ok-Expire.pattern c.in-Ok-Expire.moment c.in-Ok-Expire.field-0-is c.in-Ok-Expire.ensures.legal }
+pub serve-requires-in-Ok-Work : goal.serve-requires-in-Ok-Work
+serve-requires-in-Ok-Work g c = record { fit = tt }
 
-pub tick-requires : goal.tick-requires
-tick-requires g c = record { moment = legal_tick c.in-Ok-Tick.field-0 c.in-Ok-Tick.moment c.in-Ok-Tick.field-0-is c.in-Ok-Tick.ensures.legal }
+pub serve-requires-in-Ok-Expire : goal.serve-requires-in-Ok-Expire
+serve-requires-in-Ok-Expire g c = record { fit = legal_expiry c.in-Ok-Expire.field-0 c.in-Ok-Expire.from c.in-Ok-Expire.to c.in-Ok-Expire.days c.in-Ok-Expire.pattern c.in-Ok-Expire.moment c.in-Ok-Expire.field-0-is c.in-Ok-Expire.ensures.legal }
+
+pub serve-requires-in-Ok-Tick : goal.serve-requires-in-Ok-Tick
+serve-requires-in-Ok-Tick g c = record { fit = legal_tick c.in-Ok-Tick.field-0 c.in-Ok-Tick.moment c.in-Ok-Tick.field-0-is c.in-Ok-Tick.ensures.legal }
 
 -- ---- one mode is asked for
 pub returns-in-Ok-Init : goal.returns-in-Ok-Init
@@ -45,12 +47,14 @@ returns-in-Ok-Init g c =
     (record {
       taken = none_taken (g.O.Source.left old) (g.O.Source.left new) (most_taken run.result) source.same_left;
       long = λ script told is. absurd (other.3 is);
-      read_fault = λ is. absurd (other.1 is);
-      write_fault = λ is. absurd (other.2 is);
-      disk_fault = says.failed;
-      reads_kept = reads_stay run.result _ _ source.same_faults;
-      writes_kept = writes_stay run.result _ _ sink.same_faults;
-      disk_kept = disk_counted run.result _ _ says.later says.counted;
+      counts = record {
+        read_fault = λ is. absurd (other.1 is);
+        write_fault = λ is. absurd (other.2 is);
+        disk_fault = says.failed;
+        reads_kept = reads_stay run.result _ _ source.same_faults;
+        writes_kept = writes_stay run.result _ _ sink.same_faults;
+        disk_kept = disk_counted run.result _ _ says.later says.counted;
+      };
     })
     (record {
       own = record { made = says.made; making = says.any_moment; unshown = sink.same_shown; untouched = says.full; looks = refl };
@@ -63,19 +67,9 @@ returns-in-Ok-Init g c =
 
 pub returns-in-Ok-Replay : goal.returns-in-Ok-Replay
 returns-in-Ok-Replay g c =
-    let run = c.replay in
-    let says = run.ensures in
-    served (object g) (mode (map string_bytes c.args.words.now)) (Replay c.in-Ok-Replay.group) run.result c.args.outside.now run.new.outside c.args.steps.now run.new.steps
-    (c.in-Ok-Replay.ensures.asked ∙ ap (λ (m : Mode). Some m) c.in-Ok-Replay.field-0-is) says.only.0
-    (record { taken = says.taken; long = says.long; read_fault = says.read_fault; write_fault = says.write_fault; disk_fault = says.disk_fault; reads_kept = says.reads_kept; writes_kept = says.writes_kept; disk_kept = says.disk_kept })
-    (record {
-      own = record { runs = says.runs; crash = says.crash; looks = says.looks };
-      fits = replay_fits run.result says.only;
-      tells = says.store;
-      quiet = says.quiet;
-      left = λ nothing. absurd nothing;
-      unwritten = λ nothing. absurd nothing;
-    })
+    let says = c.serve.ensures.serves in
+    task_served (mode (map string_bytes c.args.words.now)) (Replay c.in-Ok-Replay.group) (c.in-Ok-Replay.ensures.asked ∙ ap (λ (m : Mode). Some m) c.in-Ok-Replay.field-0-is) says
+    (record { own = record { runs = says.runs; ends = says.ends; crash = says.crash; looks = says.looks }; fits = says.fits; tells = says.tells; quiet = says.quiet; left = λ nothing. absurd nothing; unwritten = λ nothing. absurd nothing })
 
 pub returns-in-Ok-Show : goal.returns-in-Ok-Show
 returns-in-Ok-Show g c =
@@ -83,7 +77,7 @@ returns-in-Ok-Show g c =
     let says = run.ensures in
     served (object g) (mode (map string_bytes c.args.words.now)) Show run.result c.args.outside.now run.new.outside c.args.steps.now run.new.steps
     (c.in-Ok-Show.ensures.asked ∙ ap (λ (m : Mode). Some m) c.in-Ok-Show.field-0-is) says.only.0
-    (unread (object g) run.result c.args.outside.now run.new.outside says.left says.only says.write_fault says.disk_fault says.reads_kept says.writes_kept says.disk_kept)
+    (unread (object g) run.result c.args.outside.now run.new.outside says.left (unread_fits run.result says.only) (record { read_fault = λ is. absurd (says.only.3 is); write_fault = says.write_fault; disk_fault = says.disk_fault; reads_kept = says.reads_kept; writes_kept = says.writes_kept; disk_kept = says.disk_kept }))
     (record {
       own = record { shows = says.shows; looks = says.looks };
       fits = unread_fits run.result says.only;
@@ -99,7 +93,7 @@ returns-in-Ok-Outbox g c =
     let says = run.ensures in
     served (object g) (mode (map string_bytes c.args.words.now)) (Outbox c.in-Ok-Outbox.since) run.result c.args.outside.now run.new.outside c.args.steps.now run.new.steps
     (c.in-Ok-Outbox.ensures.asked ∙ ap (λ (m : Mode). Some m) c.in-Ok-Outbox.field-0-is) says.only.0
-    (unread (object g) run.result c.args.outside.now run.new.outside says.left says.only says.write_fault says.disk_fault says.reads_kept says.writes_kept says.disk_kept)
+    (unread (object g) run.result c.args.outside.now run.new.outside says.left (unread_fits run.result says.only) (record { read_fault = λ is. absurd (says.only.3 is); write_fault = says.write_fault; disk_fault = says.disk_fault; reads_kept = says.reads_kept; writes_kept = says.writes_kept; disk_kept = says.disk_kept }))
     (record {
       own = record { shows = says.shows; looks = says.looks };
       fits = unread_fits run.result says.only;
@@ -111,51 +105,21 @@ returns-in-Ok-Outbox g c =
 
 pub returns-in-Ok-Work : goal.returns-in-Ok-Work
 returns-in-Ok-Work g c =
-    let run = c.work in
-    let says = run.ensures in
-    served (object g) (mode (map string_bytes c.args.words.now)) (Work c.in-Ok-Work.seed c.in-Ok-Work.count) run.result c.args.outside.now run.new.outside c.args.steps.now run.new.steps
-    (c.in-Ok-Work.ensures.asked ∙ ap (λ (m : Mode). Some m) c.in-Ok-Work.field-0-is) says.only.0
-    (unread (object g) run.result c.args.outside.now run.new.outside says.left says.only says.write_fault says.disk_fault (reads_stay run.result _ _ says.reads_kept) says.writes_kept says.disk_kept)
-    (record {
-      own = record { runs = says.runs; crash = says.crash; looks = says.looks };
-      fits = unread_fits run.result says.only;
-      tells = says.store;
-      quiet = says.quiet;
-      left = λ nothing. says.left;
-      unwritten = λ nothing. absurd nothing;
-    })
+    let says = c.serve-in-Ok-Work.ensures.serves in
+    task_served (mode (map string_bytes c.args.words.now)) (Work c.in-Ok-Work.seed c.in-Ok-Work.count) (c.in-Ok-Work.ensures.asked ∙ ap (λ (m : Mode). Some m) c.in-Ok-Work.field-0-is) says
+    (record { own = own_turns says tt; fits = says.fits; tells = says.tells; quiet = says.quiet; left = λ nothing. says.draws; unwritten = λ nothing. absurd nothing })
 
 pub returns-in-Ok-Expire : goal.returns-in-Ok-Expire
 returns-in-Ok-Expire g c =
-    let run = c.expire in
-    let says = run.ensures in
-    served (object g) (mode (map string_bytes c.args.words.now)) (Expire c.in-Ok-Expire.from c.in-Ok-Expire.to c.in-Ok-Expire.days c.in-Ok-Expire.pattern c.in-Ok-Expire.moment) run.result c.args.outside.now run.new.outside c.args.steps.now run.new.steps
-    (c.in-Ok-Expire.ensures.asked ∙ ap (λ (m : Mode). Some m) c.in-Ok-Expire.field-0-is) says.only.0
-    (unread (object g) run.result c.args.outside.now run.new.outside says.left says.only says.write_fault says.disk_fault (reads_stay run.result _ _ says.reads_kept) says.writes_kept says.disk_kept)
-    (record {
-      own = record { runs = says.runs; crash = says.crash; looks = says.looks };
-      fits = unread_fits run.result says.only;
-      tells = says.store;
-      quiet = says.quiet;
-      left = λ nothing. says.left;
-      unwritten = λ nothing. absurd nothing;
-    })
+    let says = c.serve-in-Ok-Expire.ensures.serves in
+    task_served (mode (map string_bytes c.args.words.now)) (Expire c.in-Ok-Expire.from c.in-Ok-Expire.to c.in-Ok-Expire.days c.in-Ok-Expire.pattern c.in-Ok-Expire.moment) (c.in-Ok-Expire.ensures.asked ∙ ap (λ (m : Mode). Some m) c.in-Ok-Expire.field-0-is) says
+    (record { own = own_turns says tt; fits = says.fits; tells = says.tells; quiet = says.quiet; left = λ nothing. says.draws; unwritten = λ nothing. absurd nothing })
 
 pub returns-in-Ok-Tick : goal.returns-in-Ok-Tick
 returns-in-Ok-Tick g c =
-    let run = c.tick in
-    let says = run.ensures in
-    served (object g) (mode (map string_bytes c.args.words.now)) (Tick c.in-Ok-Tick.moment) run.result c.args.outside.now run.new.outside c.args.steps.now run.new.steps
-    (c.in-Ok-Tick.ensures.asked ∙ ap (λ (m : Mode). Some m) c.in-Ok-Tick.field-0-is) says.only.0
-    (unread (object g) run.result c.args.outside.now run.new.outside says.left says.only says.write_fault says.disk_fault (reads_stay run.result _ _ says.reads_kept) says.writes_kept says.disk_kept)
-    (record {
-      own = record { runs = says.runs; crash = says.crash; looks = says.looks };
-      fits = unread_fits run.result says.only;
-      tells = says.store;
-      quiet = says.quiet;
-      left = λ nothing. says.left;
-      unwritten = λ nothing. absurd nothing;
-    })
+    let says = c.serve-in-Ok-Tick.ensures.serves in
+    task_served (mode (map string_bytes c.args.words.now)) (Tick c.in-Ok-Tick.moment) (c.in-Ok-Tick.ensures.asked ∙ ap (λ (m : Mode). Some m) c.in-Ok-Tick.field-0-is) says
+    (record { own = own_turns says tt; fits = says.fits; tells = says.tells; quiet = says.quiet; left = λ nothing. says.draws; unwritten = λ nothing. absurd nothing })
 
 -- ---- none is
 pub returns-in-Err-Usage : goal.returns-in-Err-Usage

@@ -12,14 +12,14 @@ returns-in-Ok-clause-runs g c =
     let laws = laws_of g.met.O.Sink g.met.O.Disk g.met.O.Outside in
     let was = c.args.self.now in
     let renewed = c.renew.new.self in
-    let next : Session = record { store = c.set_group.new.self; kept = renewed.kept; alloc = renewed.alloc } in
+    let next : Session = record { store = c.set_group.new.self; kept = renewed.kept; alloc = renewed.alloc; scratch = renewed.scratch } in
     calms_then was renewed next c.args.outside.now c.renew.new.outside c.renew.new.outside laws c.in_ok-renew.ensures.runs (alike_calms renewed next c.renew.new.outside laws c.set_group.ensures.stands refl)
 
 pub returns-in-Ok-clause-ready : goal.returns-in-Ok-clause-ready
 returns-in-Ok-clause-ready g c =
     let renewed = c.renew.new.self in
     record {
-      flush = ready_alike g.O.Disk.reads renewed (record { store = c.set_group.new.self; kept = renewed.kept; alloc = renewed.alloc }) c.renew.new.outside c.set_group.ensures.stands c.set_group.ensures.sound c.in_ok-renew.ensures.ready;
+      flush = ready_alike g.O.Disk.reads renewed (record { store = c.set_group.new.self; kept = renewed.kept; alloc = renewed.alloc; scratch = renewed.scratch }) c.renew.new.outside c.set_group.ensures.stands c.set_group.ensures.sound c.in_ok-renew.ensures.ready;
       idle = ap (λ (m : Machine). m.waiting) (c.set_group.ensures.engine ∙ c.renew.ensures.engine) ∙ c.requires.idle;
     }
 
@@ -28,14 +28,14 @@ returns-in-Err-clause-runs g c =
     let laws = laws_of g.met.O.Sink g.met.O.Disk g.met.O.Outside in
     let was = c.args.self.now in
     let renewed = c.renew.new.self in
-    let next : Session = record { store = c.set_group.new.self; kept = renewed.kept; alloc = renewed.alloc } in
+    let next : Session = record { store = c.set_group.new.self; kept = renewed.kept; alloc = renewed.alloc; scratch = renewed.scratch } in
     calms_full was next c.args.outside.now c.renew.new.outside
     (calms_then was renewed next c.args.outside.now c.renew.new.outside c.renew.new.outside laws c.in_ok-renew.ensures.runs (alike_calms renewed next c.renew.new.outside laws c.set_group.ensures.stands refl))
 
 pub returns-in-Err-clause-memory : goal.returns-in-Err-clause-memory
 returns-in-Err-clause-memory g c is =
     let renewed = c.renew.new.self in
-    ready_alike g.O.Disk.reads renewed (record { store = c.set_group.new.self; kept = renewed.kept; alloc = renewed.alloc }) c.renew.new.outside c.set_group.ensures.stands c.set_group.ensures.sound c.in_ok-renew.ensures.ready
+    ready_alike g.O.Disk.reads renewed (record { store = c.set_group.new.self; kept = renewed.kept; alloc = renewed.alloc; scratch = renewed.scratch }) c.renew.new.outside c.set_group.ensures.stands c.set_group.ensures.sound c.in_ok-renew.ensures.ready
 
 pub returns-in_err-renew-clause-runs : goal.returns-in_err-renew-clause-runs
 returns-in_err-renew-clause-runs g c =

@@ -24,7 +24,7 @@ returns-in-Ok-clause-runs g c =
     let laws = laws_of g.met.O.Sink g.met.O.Disk g.met.O.Outside in
     let was = c.args.self.now in
     let e = was.store.engine in
-    let next : Session = record { store = c.apply.new.self; kept = was.kept; alloc = was.alloc } in
+    let next : Session = record { store = c.apply.new.self; kept = was.kept; alloc = was.alloc; scratch = was.scratch } in
     let took = c.in-Ok.ensures.ok in
     let command = c.args.command.now in
     let turn = unshown (command_turn e.size c.args.number command) in
@@ -42,13 +42,13 @@ returns-in-Ok-clause-tally g c =
 pub returns-in-NoMemory-clause-runs : goal.returns-in-NoMemory-clause-runs
 returns-in-NoMemory-clause-runs g c =
     let was = c.args.self.now in
-    full_stops (unshown (command_turn was.store.engine.size c.args.number c.args.command.now) ∷ []) was (record { store = c.apply.new.self; kept = was.kept; alloc = was.alloc }) c.args.outside.now c.apply.new.disk (laws_of g.met.O.Sink g.met.O.Disk g.met.O.Outside)
+    full_stops (unshown (command_turn was.store.engine.size c.args.number c.args.command.now) ∷ []) was (record { store = c.apply.new.self; kept = was.kept; alloc = was.alloc; scratch = was.scratch }) c.args.outside.now c.apply.new.disk (laws_of g.met.O.Sink g.met.O.Disk g.met.O.Outside)
     (c.apply.ensures.full (c.in-Err.is ∙ ap (λ (f : StoreFault). Err f) c.in-NoMemory.is)) refl
 
 pub returns-in_default-clause-runs : goal.returns-in_default-clause-runs
 returns-in_default-clause-runs g c =
     let was = c.args.self.now in
-    store_stops (unshown (command_turn was.store.engine.size c.args.number c.args.command.now)) c.args.command.now was (record { store = c.apply.new.self; kept = was.kept; alloc = was.alloc }) c.args.outside.now c.apply.new.disk (laws_of g.met.O.Sink g.met.O.Disk g.met.O.Outside) c.apply.ensures.by
+    store_stops (unshown (command_turn was.store.engine.size c.args.number c.args.command.now)) c.args.command.now was (record { store = c.apply.new.self; kept = was.kept; alloc = was.alloc; scratch = was.scratch }) c.args.outside.now c.apply.new.disk (laws_of g.met.O.Sink g.met.O.Disk g.met.O.Outside) c.apply.ensures.by
     (λ R. refl) (record { leaves = c.apply.ensures.leaves })
 
 pub returns-in_default-clause-counts : goal.returns-in_default-clause-counts

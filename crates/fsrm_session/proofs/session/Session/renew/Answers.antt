@@ -9,11 +9,11 @@ returns-then-not-old-clause-runs g c = calms_nothing c.args.self.now c.args.outs
 pub returns-in-Ok-clause-runs : goal.returns-in-Ok-clause-runs
 returns-in-Ok-clause-runs g c =
     let was = c.args.self.now in
-    flushed_calms was (record { store = c.checkpoint.new.self; kept = was.kept; alloc = was.alloc }) c.args.outside.now c.checkpoint.new.disk (laws_of g.met.O.Sink g.met.O.Disk g.met.O.Outside)
+    flushed_calms was (record { store = c.checkpoint.new.self; kept = was.kept; alloc = was.alloc; scratch = was.scratch }) c.args.outside.now c.checkpoint.new.disk (laws_of g.met.O.Sink g.met.O.Disk g.met.O.Outside)
     c.checkpoint.ensures.by refl c.checkpoint.ensures.engine c.checkpoint.ensures.leaves c.in-Ok.ensures.store
 
 pub returns-in-Err-clause-runs : goal.returns-in-Err-clause-runs
 returns-in-Err-clause-runs g c =
     let was = c.args.self.now in
-    flushed_breaks was (record { store = c.checkpoint.new.self; kept = was.kept; alloc = was.alloc }) c.args.outside.now c.checkpoint.new.disk (laws_of g.met.O.Sink g.met.O.Disk g.met.O.Outside)
+    flushed_breaks was (record { store = c.checkpoint.new.self; kept = was.kept; alloc = was.alloc; scratch = was.scratch }) c.args.outside.now c.checkpoint.new.disk (laws_of g.met.O.Sink g.met.O.Disk g.met.O.Outside)
     c.checkpoint.ensures.by c.checkpoint.ensures.leaves

@@ -15,7 +15,7 @@ pub returns-in-Ok-clause-runs : goal.returns-in-Ok-clause-runs
 returns-in-Ok-clause-runs g c =
     let laws = laws_of g.met.O.Sink g.met.O.Disk g.met.O.Outside in
     let was = c.args.self.now in
-    let flushed : Session = record { store = c.flush.new.self; kept = was.kept; alloc = was.alloc } in
+    let flushed : Session = record { store = c.flush.new.self; kept = was.kept; alloc = was.alloc; scratch = was.scratch } in
     after_calms c.show.result was flushed c.show.new.self c.args.outside.now c.flush.new.disk c.show.new.outside laws
     (flushed_calms was flushed c.args.outside.now c.flush.new.disk laws c.flush.ensures.by refl c.flush.ensures.engine c.flush.ensures.leaves c.in-Ok.ensures.store)
     c.show.ensures.runs
@@ -23,7 +23,7 @@ returns-in-Ok-clause-runs g c =
 pub returns-in-Err-clause-runs : goal.returns-in-Err-clause-runs
 returns-in-Err-clause-runs g c =
     let was = c.args.self.now in
-    flushed_breaks was (record { store = c.flush.new.self; kept = was.kept; alloc = was.alloc }) c.args.outside.now c.flush.new.disk (laws_of g.met.O.Sink g.met.O.Disk g.met.O.Outside) c.flush.ensures.by c.flush.ensures.leaves
+    flushed_breaks was (record { store = c.flush.new.self; kept = was.kept; alloc = was.alloc; scratch = was.scratch }) c.args.outside.now c.flush.new.disk (laws_of g.met.O.Sink g.met.O.Disk g.met.O.Outside) c.flush.ensures.by c.flush.ensures.leaves
 
 pub returns-in-Ok-clause-looks : goal.returns-in-Ok-clause-looks
 returns-in-Ok-clause-looks g c = record {

@@ -15,7 +15,7 @@ returns-in-Ok-clause-runs g c =
     let was = c.args.self.now in
     let text = flat_map part_text c.args.parts.now in
     let batch = c.send.new.sink in
-    let next : Session = record { store = was.store; kept = batch.waiting.now; alloc = was.alloc } in
+    let next : Session = record { store = was.store; kept = batch.waiting.now; alloc = was.alloc; scratch = was.scratch } in
     let writes = c.in-Ok.ensures.writes in
     let by = writes.device.by in
     ended_as (λ d. Tells (members g.O.Source g.O.Sink g.O.Disk) text was next c.args.outside.now d) _ batch.device.now _ batch.device.ghost_name by.same_device (search rules)
@@ -26,7 +26,7 @@ returns-in-Err-WriteFault-clause-runs g c =
     let was = c.args.self.now in
     let text = flat_map part_text c.args.parts.now in
     let batch = c.send.new.sink in
-    let next : Session = record { store = was.store; kept = batch.waiting.now; alloc = was.alloc } in
+    let next : Session = record { store = was.store; kept = batch.waiting.now; alloc = was.alloc; scratch = was.scratch } in
     let writes = c.in-Err-WriteFault.ensures.writes in
     let by = writes.device.by in
     let part = writes.text.front in
@@ -39,7 +39,7 @@ returns-in-Err-NoMemory-clause-runs g c =
     let was = c.args.self.now in
     let text = flat_map part_text c.args.parts.now in
     let batch = c.send.new.sink in
-    let next : Session = record { store = was.store; kept = batch.waiting.now; alloc = was.alloc } in
+    let next : Session = record { store = was.store; kept = batch.waiting.now; alloc = was.alloc; scratch = was.scratch } in
     let writes = c.in-Err-NoMemory.ensures.writes in
     let by = writes.device.by in
     let part = writes.text.front in

@@ -1,20 +1,17 @@
-use Rattle.std.proofs.Common.{◌∙◌, ap, sym, subst, refl}
-use Rattle.std.specs.Prelude.{Result, Err, Ok}
-use Rattle.fsrm_session.specs.Underway.{Underway}
+use Rattle.std.proofs.Common.{ap, subst}
+use Rattle.std.specs.Prelude.{Result, Err}
 use Rattle.fsrm_session.proofs.Object.{laws_of}
-use Rattle.fsrm_outside.specs.Causes.{Rose}
 use Rattle.fsrm_store.specs.Amortized.{bytes_since, Amortized}
 use Rattle.fsrm_session.specs.Spending.{bytes_after}
 use Rattle.fsrm_session.specs.Members.{members}
-use Rattle.fsrm_modes.specs.Ends.{Ended, Took}
 use Rattle.fsrm_modes.specs.Looks.{left_after}
-use Rattle.fsrm_modes.specs.Statuses.{CloseCounts, IsReadEnd, IsSettled}
+use Rattle.fsrm_modes.specs.Statuses.{IsReadEnd}
 use Rattle.fsrm_modes.specs.declared.status.Status.{Status}
 use Rattle.fsrm_session.specs.declared.stop.Stop.{Stop}
 use Rattle.fsrm_modes.proofs.Ends.{broken_outcome, close_counts, done_outcome, ended_outcome, if_err, of_err, settle_counts, took_err, took_ok}
 use Rattle.fsrm_modes.proofs.ReplayEnds.{match_err, match_ok}
 use Rattle.fsrm_modes.proofs.Spent.{done_spends, ended_spends}
-use Rattle.fsrm_modes.proofs.replay.conclude.Goals as goal
+use Rattle.fsrm_modes.proofs.ending.conclude.Goals as goal
 
 pub returns-in-Ok-settle-clause-concludes : goal.returns-in-Ok-settle-clause-concludes
 returns-in-Ok-settle-clause-concludes g c K R turns before start took =

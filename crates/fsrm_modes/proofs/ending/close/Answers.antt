@@ -1,7 +1,7 @@
 use Rattle.fsrm_session.specs.Spending.{bytes_after}
 use Rattle.fsrm_modes.proofs.Ends.{closed, closed_later, closed_whole}
 use Rattle.fsrm_modes.proofs.Spent.{eased}
-use Rattle.fsrm_modes.proofs.replay.close.Goals as goal
+use Rattle.fsrm_modes.proofs.ending.close.Goals as goal
 
 pub returns-in-ReadFault-clause-settled : goal.returns-in-ReadFault-clause-settled
 returns-in-ReadFault-clause-settled g c is K R turns words before u =
