@@ -22,15 +22,22 @@ replay        Read a script from standard input, and write the replies to standa
 show          List the quotas
 outbox SINCE  List the latest notice of each action that ran at SINCE or later; SINCE is a moment
 work SEED COUNT
-              Run COUNT commands that are made from SEED, and write a line that sums up the replies; COUNT is 1 to 1000000
+              Run COUNT commands that are made from SEED and change the store, and write a line that sums up
+              the replies; COUNT is 1 to 1000000
 expire FROM TO DAYS PATTERN MOMENT
               Move the files of the folder FROM that match PATTERN, and weren't changed for DAYS days at MOMENT,
               into the folder TO; DAYS is 0 to 36500
 tick MOMENT   Run the report jobs that are due at MOMENT";
 
 const STORE: &str = "\
-A store is two files of the current folder, fsrm.store.0 and fsrm.store.1. Each line of a script is a
-moment, in seconds since the beginning of 1970, and a command, as in: 1000000000 mkdir D:\\home 1";
+A store is two files of the current folder, fsrm.store.0 and fsrm.store.1. One run at a time may use it.
+Each line of a script is a moment, in seconds since the beginning of 1970, and a command, as in:
+  1000000000 mkdir D:\\home 1
+In a shell, paths and patterns stand between quotes, as in:
+  fsrm expire 'D:\\home' 'D:\\old' 365 '*' 1000000000
+
+README.md, in the program's sources, describes the commands. In the folder docs beside it, MACHINE.md has
+their rules, FORMATS.md the replies and exit statuses, and OPERATING.md is for who keeps a store in use.";
 
 const OF_INIT: &str = "Options of init";
 
