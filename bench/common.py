@@ -1,4 +1,4 @@
-"""What bench/lines, scans, journal, store and codec share: programs, rivals, and how they are measured."""
+"""What bench/lines, scans, journal, store, codec and store_cases share: programs, rivals, and how they are measured."""
 import os
 import re
 import resource

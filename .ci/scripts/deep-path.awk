@@ -1,4 +1,4 @@
-# 2,000 folders, each in the one before.
+# 2,000 folders, each in the one before, and a file in the last one.
 BEGIN {
     path = "D:"
     for (depth = 1; depth <= 2000; depth++) {
@@ -7,4 +7,6 @@ BEGIN {
     }
     print "7 usage " path "\\"
     print "7 usage " path "\\\\"
+    print "7 create " path "\\f 4097 1"
+    print "7 usage D:\\"
 }
