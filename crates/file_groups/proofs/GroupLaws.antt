@@ -44,7 +44,6 @@ some_new row groups name is =
 
 -- ---- a group with other patterns, in the place of the one of its number
 pub record IsRegrouped (groups : List GroupRow) (n : ℕ) (row : GroupRow) (members non_members : Option (List (List ℕ))) : Type 0 where
-  pub number : row.number ≡ n
   pub is : with_change group_number row.number (λ old. row) groups ≡ with_patterns n members non_members groups
   pub are : AreGroups (with_change group_number row.number (λ old. row) groups)
 
@@ -56,7 +55,6 @@ regrouped_is groups n old row members non_members are found made valid =
     ∙ change_same group_number n (λ (g : GroupRow). row) (regrouped members non_members) groups (named_parts group_number group_name most_groups is_group groups are).ascending
     (λ g is. made ∙ ap (regrouped members non_members) (same_Some old g (sym found ∙ is))) in
     record {
-      number = number;
       is = same;
       are =
           rw same (named-change group_number group_name most_groups is_group n (regrouped members non_members) groups are (λ g. refl) (λ g. refl)

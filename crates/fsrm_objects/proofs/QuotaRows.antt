@@ -10,8 +10,7 @@ use Rattle.fsrm_model.specs.objects.Templates.{is_derived, without_source}
 use Rattle.fsrm_model.specs.values.Texts.{action_bytes, quota_bytes}
 use Rattle.fsrm_model.specs.objects.Thresholds.{are_too_many, is_crowded}
 use Rattle.fsrm_base.proofs.Sums.{sum_by_within}
-use Rattle.fsrm_base.proofs.TestLaws.{both, both_true, ge_is, le_is, le_test, neither}
-use Rattle.fsrm_objects.specs.Kept.{most_quota_bytes}
+use Rattle.fsrm_base.proofs.TestLaws.{both, both_true, ge_is, le_test, neither}
 use Rattle.fsrm_objects.specs.Tables.{has_short_texts, is_short}
 
 pub actions_small : (actions : List Action) → length actions ≤ 8 → list_all is_short actions ≡ true → action_bytes actions ≤ 8192
@@ -24,28 +23,20 @@ each_small (threshold ∷ thresholds) few short =
     let texts = both (list_all is_short threshold.actions) _ short in
     both_true _ _ (le_test _ 8192 (actions_small threshold.actions (ge_is 8 (length threshold.actions) its.0) texts.0)) (each_small thresholds its.1 texts.1)
 
-pub quota_small : (row : QuotaRow) → are_too_many row.thresholds ≡ false → has_short_texts row ≡ true → nat_le (quota_bytes row) most_quota_bytes ≡ true
-quota_small row few short =
+pub quota_fits : (row : QuotaRow) → are_too_many row.thresholds ≡ false → has_short_texts row ≡ true → quota_bytes row ≤ 131072
+quota_fits row few short =
     let its = neither _ (list_any is_crowded row.thresholds) few in
     let least : length row.thresholds ≤ 16 = ge_is 16 (length row.thresholds) its.0 in
-    le_test (quota_bytes row) most_quota_bytes
-    (omega (arith, sum_by_within (λ (threshold : Threshold). action_bytes threshold.actions) 8192 row.thresholds (each_small row.thresholds its.1 short)))
-
-pub quota_fits : (row : QuotaRow) → are_too_many row.thresholds ≡ false → has_short_texts row ≡ true → quota_bytes row ≤ 131072
-quota_fits row few short = le_is _ _ (quota_small row few short)
+    omega (arith, sum_by_within (λ (threshold : Threshold). action_bytes threshold.actions) 8192 row.thresholds (each_small row.thresholds its.1 short))
 
 -- one whose template is gone keeps its folder and its texts
 module _ (template : ℕ) (row : QuotaRow) where
-  freed_folder : (b : Bool) → folder_of (cond b (record row { template = None }) row) ≡ folder_of row
-  freed_folder true = refl
-  freed_folder false = refl
+  freed : (f : QuotaRow → ℕ) (b : Bool) → f (record row { template = None }) ≡ f row → f (cond b (record row { template = None }) row) ≡ f row
+  freed f true same = same
+  freed f false same = refl
 
   pub source_folder : folder_of (without_source template row) ≡ folder_of row
-  source_folder = freed_folder (is_derived template row)
-
-  freed_bytes : (b : Bool) → quota_bytes (cond b (record row { template = None }) row) ≡ quota_bytes row
-  freed_bytes true = refl
-  freed_bytes false = refl
+  source_folder = freed folder_of (is_derived template row) refl
 
   pub source_bytes : quota_bytes (without_source template row) ≡ quota_bytes row
-  source_bytes = freed_bytes (is_derived template row)
+  source_bytes = freed quota_bytes (is_derived template row) refl

@@ -6,7 +6,7 @@ use Rattle.std.proofs.lemmas.Option.{get_or_from_slice_get, slice_get_within}
 use Rattle.std.specs.Borrow.{Bor}
 use Rattle.std.specs.List.{list_any}
 use Rattle.std.specs.Option.{option_copied}
-use Rattle.std.specs.Prelude.{find, is_some, slice_get, IsSome}
+use Rattle.std.specs.Prelude.{find, is_some, slice_get}
 use Rattle.fsrm_base.specs.Keyed.{has_row, row_of, without_row}
 use Rattle.fsrm_base.proofs.Look.{is_some-find, none_row}
 use Rattle.fsrm_base.proofs.TestLaws.{eq_is}
@@ -34,9 +34,6 @@ is_lent (Some row) = refl
 
 pub lent_any : {X : Type 0} (p : X → Bool) (rows : List X) (o : Option (Bor X)) → option_copied o ≡ find p rows → is_some o ≡ list_any p rows
 lent_any p rows o found = is_lent o ∙ (ap is_some found ∙ is_some-find p rows)
-
-pub lent_there : {X : Type 0} (key : X → ℕ) (n : ℕ) (rows : List X) (o : Option (Bor X)) → has_row key n rows ≡ true → option_copied o ≡ row_of key n rows → IsSome o
-lent_there key n rows o there found = lent_any (λ row. key row == n) rows o found ∙ there
 
 -- what is found from a place on
 pub find_at : {X : Type 0} (p : X → Bool) (rows : List X) (i : ℕ) (r : X) → slice_get rows i ≡ Some r → find p (drop i rows) ≡ cond (p r) (Some r) (find p (drop (i + 1) rows))

@@ -1,17 +1,18 @@
 -- A list whose part from a place on has lost its first entry, and entries of which one has gone.
-use Rattle.std.proofs.Common.{◌≡◌, ℕ, zero, suc, ◌+◌, ◌-◌, ◌<◌, ◌≤◌, ◌==◌, nat_le, nat_lt, Bool, true, false, cond, inl, inr, List, [], ◌∷◌, ◌++◌, Option, Some, None, IfSome, MatchOption, drop, length, length-append, slice_get, slice_set, take, refl, sym, ◌∙◌, ap, subst, arith}
+use Rattle.std.proofs.Common.{◌≡◌, ℕ, zero, suc, ◌+◌, ◌-◌, ◌<◌, ◌≤◌, ◌==◌, nat_le, nat_lt, ◌≢◌, Bool, true, false, cond, List, [], ◌∷◌, ◌++◌, Option, Some, None, IfSome, MatchOption, drop, length, length-append, slice_get, slice_set, take, refl, sym, ◌∙◌, ap, subst, arith}
 use Rattle.std.proofs.Math.Seq.{take-append-add}
 use Rattle.std.proofs.lemmas.List.{drop-drop, length-drop, length-take-le, take-append-le, take-take, take_rest}
-use Rattle.std.proofs.lemmas.Bool.{cases_eq}
+use Rattle.std.proofs.lemmas.List.Edits.{length-remove}
 use Rattle.std.proofs.lemmas.Option.{same_Some, slice_get_within}
 use Rattle.std.specs.List.{remove}
-use Rattle.fsrm_base.specs.Keyed.{has_row, is_ascending, row_of, with_row, without_row}
+use Rattle.fsrm_base.specs.Keyed.{has_row, is_ascending, with_row}
 use Rattle.fsrm_base.specs.Places.{IsAt}
 use Rattle.fsrm_base.proofs.EditedRows.{ascending_tail}
-use Rattle.fsrm_base.proofs.Look.{has_row-without, has_row-without_other, row_of-without}
+use Rattle.fsrm_base.proofs.EditedTests.{list_any-filter}
+use Rattle.fsrm_base.proofs.Look.{has_row-without}
 use Rattle.fsrm_base.proofs.Order.{parts}
-use Rattle.fsrm_base.proofs.SortedRows.{ascending-remove, later_above, remove_found, row_at, row_found, there}
-use Rattle.fsrm_base.proofs.TestLaws.{clash, eq_above, eq_below, eq_is, eq_test, ge_is, gt_is, is_apart, le_is, lt_is, lt_test, not_lt}
+use Rattle.fsrm_base.proofs.SortedRows.{ascending-remove, later_above, remove_found, remove_row, row_at, row_found, there}
+use Rattle.fsrm_base.proofs.TestLaws.{clash, eq_is, eq_test, ge_is, gt_is, le_is, lt_is, lt_test, not_lt}
 use Rattle.row_table.specs.declared.index.Entry.{Entry}
 use Rattle.row_table.specs.Indexed.{AreIndexed, number_of}
 use Rattle.row_table.specs.Ordered.{IsOrder, living, place_among, place_in}
@@ -40,29 +41,16 @@ cut xs moved after tail place n m within all less rest same =
 abbrev Within : Option ℕ → List Entry → Type 0
 Within gone es = IfSome gone (λ place. place < length es)
 
--- the number of the one that stands at a place
-abbrev number_at : (es : List Entry) (p : ℕ) → p < length es → ℕ
-number_at es p l = (there es p l).row.number
-
 -- one stands at the place of its number
 pub at_number : (es : List Entry) (n p : ℕ) (e : Entry) → is_ascending number_of es ≡ true → slice_get es p ≡ Some e → e.number ≡ n → IsAt number_of n es p
 at_number es n p e a at same =
     record { within = slice_get_within es p e at; found = at ∙ sym (row_at number_of n es p e a at same) }
 
-own_place : (es : List Entry) (p : ℕ) → is_ascending number_of es ≡ true → (l : p < length es) → IsAt number_of (number_at es p l) es p
-own_place es p a l =
-    let f = there es p l in
-    at_number es f.row.number p f.row a f.is refl
-
-less_own : (es : List Entry) (p : ℕ) → is_ascending number_of es ≡ true → (l : p < length es) → remove es p ≡ without_row number_of (number_at es p l) es
-less_own es p a l = remove_found number_of (number_at es p l) es p a (own_place es p a l)
-
-pub shorter : (es : List Entry) (p : ℕ) → p < length es → length (remove es p) + 1 ≡ length es
-shorter es p l = omega (arith, length-append (take p es) (drop (suc p) es), length-take-le p es (omega arith), length-drop (suc p) es)
-
 pub living_ascending : (gone : Option ℕ) (es : List Entry) → is_ascending number_of es ≡ true → Within gone es → is_ascending number_of (living gone es) ≡ true
 living_ascending None es a l = a
-living_ascending (Some p) es a l = ascending-remove number_of (number_at es p l) es p a (own_place es p a l)
+living_ascending (Some p) es a l =
+    let f = there es p l in
+    ascending-remove number_of f.row.number es p a (at_number es f.row.number p f.row a f.is refl)
 
 -- ---- where those that are there stand
 kept_before : (es : List Entry) (p i : ℕ) → i < p → slice_get (remove es p) i ≡ slice_get es i
@@ -95,51 +83,26 @@ stands_within_at es p i false e l = omega (arith, l)
 
 pub stands_within : (gone : Option ℕ) (es : List Entry) (i : ℕ) → Within gone es → i < length (living gone es) → place_in gone i < length es
 stands_within None es i l within = within
-stands_within (Some p) es i l within = stands_within_at es p i (nat_le p i) refl (omega (arith, within, shorter es p l))
+stands_within (Some p) es i l within = stands_within_at es p i (nat_le p i) refl (omega (arith, within, length-remove es p l))
 
 -- ---- their places among those that are there
-ascends : (es : List Entry) (i j : ℕ) (r s : Entry) → is_ascending number_of es ≡ true → i < j → slice_get es i ≡ Some r → slice_get es j ≡ Some s → r.number < s.number
-ascends [] i j r s a l h k = cc
-ascends (x ∷ es) i zero r s a l h k = absurd (omega arith)
-ascends (x ∷ es) zero (suc j) r s a l h k = subst (λ (y : Entry). y.number < s.number) (same_Some x r h) (later_above number_of x es j s a k)
-ascends (x ∷ es) (suc i) (suc j) r s a l h k = ascends es i j r s (ascending_tail number_of x es a) (omega arith) h k
-
--- a number at another place than the one that has gone is found as before
-other_found : (es : List Entry) (p n i : ℕ) → is_ascending number_of es ≡ true → (l : p < length es) → IsAt number_of n es i → (n == number_at es p l) ≡ false → row_of number_of n es ≡ row_of number_of n (remove es p)
-other_found es p n i a l at apart =
-    sym (ap (row_of number_of n) (less_own es p a l) ∙ row_of-without number_of (number_at es p l) n es apart)
-
-place_later : (es : List Entry) (p n i : ℕ) → is_ascending number_of es ≡ true → (l : p < length es) → IsAt number_of n es i → p < i → IsAt number_of n (remove es p) (i - 1)
-place_later es p n i a l at before =
+-- what stands where it did, or one place before, is still found
+stays : (es : List Entry) (p n i j : ℕ) → is_ascending number_of es ≡ true → p < length es → IsAt number_of n es i → slice_get (remove es p) j ≡ slice_get es i → IsAt number_of n (remove es p) j
+stays es p n i j a l at same =
     let f = row_found number_of n es i at in
-    let g = there es p l in
-    let below : g.row.number < f.row.number = ascends es p i g.row f.row a before g.is f.at in
-    let next : suc (i - 1) ≡ i = omega (arith, before) in
-    record {
-      within = omega (arith, shorter es p l, at.within, before);
-      found = kept_after es p (i - 1) (omega (arith, before)) ∙ (ap (slice_get es) next ∙ (at.found ∙ other_found es p n i a l at (eq_above n g.row.number (omega (arith, below, f.number)))));
-    }
-
-place_before : (es : List Entry) (p n i : ℕ) → is_ascending number_of es ≡ true → (l : p < length es) → IsAt number_of n es i → i < p → IsAt number_of n (remove es p) i
-place_before es p n i a l at before =
-    let f = row_found number_of n es i at in
-    let g = there es p l in
-    let above : f.row.number < g.row.number = ascends es i p f.row g.row a before f.at g.is in
-    record {
-      within = omega (arith, shorter es p l, before, l);
-      found = kept_before es p i before ∙ (at.found ∙ other_found es p n i a l at (eq_below n g.row.number (omega (arith, above, f.number))));
-    }
+    at_number (remove es p) n j f.row (living_ascending (Some p) es a l) (same ∙ f.at) f.number
 
 placed_at : (es : List Entry) (p n i : ℕ) → is_ascending number_of es ≡ true → p < length es → IsAt number_of n es i → (b : Bool) → (p == i) ≡ b → (c : Bool) → nat_lt p i ≡ c → MatchOption (cond b None (cond c (Some (i - 1)) (Some i))) (has_row number_of n (remove es p) ≡ false) (IsAt number_of n (remove es p))
 placed_at es p n i a l at true e c h =
     ap (λ j. has_row number_of n (remove es j)) (eq_is p i e) ∙ (ap (has_row number_of n) (remove_found number_of n es i a at) ∙ has_row-without number_of n es)
-placed_at es p n i a l at false e true h = place_later es p n i a l at (lt_is p i h)
+placed_at es p n i a l at false e true h =
+    let before : p < i = lt_is p i h in
+    let next : suc (i - 1) ≡ i = omega arith in
+    stays es p n i (i - 1) a l at (kept_after es p (i - 1) (omega arith) ∙ ap (slice_get es) next)
 placed_at es p n i a l at false e false h =
     let most : i ≤ p = ge_is p i h in
-    place_before es p n i a l at (elim (cases_eq p i) [ inl same ↦ absurd (at_own same) | inr other ↦ omega (arith, most, other) ])
-  where
-    at_own : p ≡ i → ⊥
-    at_own same = clash (p == i) (eq_test p i same) e
+    let apart : p ≢ i = λ same. clash (p == i) (eq_test p i same) e in
+    stays es p n i i a l at (kept_before es p i (omega arith))
 
 pub placed : (gone : Option ℕ) (es : List Entry) (n i : ℕ) → is_ascending number_of es ≡ true → Within gone es → IsAt number_of n es i → MatchOption (place_among gone i) (has_row number_of n (living gone es) ≡ false) (IsAt number_of n (living gone es))
 placed None es n i a l at = at
@@ -148,12 +111,8 @@ placed (Some p) es n i a l at = placed_at es p n i a l at (p == i) refl (nat_lt 
 pub absent_too : (gone : Option ℕ) (es : List Entry) (n : ℕ) → is_ascending number_of es ≡ true → Within gone es → has_row number_of n es ≡ false → has_row number_of n (living gone es) ≡ false
 absent_too None es n a l absent = absent
 absent_too (Some p) es n a l absent =
-    let k : ℕ = number_at es p l in
-    ap (has_row number_of n) (less_own es p a l)
-    ∙ elim (cases_eq n k) [
-      | inl same ↦ ap (λ m. has_row number_of m (without_row number_of k es)) same ∙ has_row-without number_of k es
-      | inr other ↦ has_row-without_other number_of k n es (is_apart n k other) ∙ absent
-    ]
+    let f = there es p l in
+    ap (has_row number_of n) (remove_row number_of f.row.number es p f.row a f.is refl) ∙ list_any-filter (λ e. e.number == n) _ es absent
 
 -- ---- entries that come and go
 -- one takes the place of the one that had its number

@@ -1,5 +1,6 @@
 -- What a table answers, and what it keeps if a row comes, goes or is another.
-use Rattle.std.proofs.Common.{◌≡◌, ℕ, zero, suc, ◌+◌, ◌-◌, ◌*◌, ◌<◌, ◌≤◌, ◌==◌, nat_le, nat_lt, Bool, true, false, cond, ◌&&◌, ◌||◌, List, [], ◌∷◌, length, map, Option, Some, None, inl, inr, refl, sym, ◌∙◌, ap, subst, arith}
+use Rattle.std.proofs.Common.{◌≡◌, ℕ, ◌+◌, ◌-◌, ◌*◌, ◌<◌, ◌≤◌, ◌==◌, nat_le, nat_lt, Bool, true, false, cond, ◌&&◌, ◌||◌, List, [], ◌∷◌, length, map, Option, Some, None, inl, inr, refl, sym, ◌∙◌, ap, subst, arith}
+use Rattle.std.proofs.Math.ListN.{get_or-map}
 use Rattle.std.proofs.lemmas.List.{get_or_past, length-map}
 use Rattle.std.proofs.lemmas.List.Folds.{list_all-map}
 use Rattle.std.proofs.lemmas.Nat.{mul-le}
@@ -12,7 +13,7 @@ use Rattle.fsrm_base.specs.Numbers.{is_in, is_set, itself}
 use Rattle.fsrm_base.specs.Places.{IsAt}
 use Rattle.fsrm_base.proofs.EditedRows.{change_absent, find-with_row_same, length-change, length-with_row, sum_by-with_row, sum_by-with_change, sum_by-without_row}
 use Rattle.fsrm_base.proofs.EditedTests.{list_all-filter, list_all-with_change, list_all-with_row}
-use Rattle.fsrm_base.proofs.Look.{find-map, found_key, has_row-without, is_some-find, is_some-mapped, none_row, row_of-new_other, row_of-without, some_row}
+use Rattle.fsrm_base.proofs.Look.{find-map, found_key, has_found, has_row-without, is_some-find, is_some-mapped, none_row, row_of-new_other, row_of-without, some_row}
 use Rattle.fsrm_base.proofs.Members.{all_found}
 use Rattle.fsrm_base.proofs.NumberLaws.{same_set}
 use Rattle.fsrm_base.proofs.Order.{ascending-filter, ascending-map, ascending-with_row}
@@ -54,11 +55,6 @@ rows_some : {X : Type 0} (rows : List X) → rows_of (map Some rows) ≡ rows
 rows_some [] = refl
 rows_some (r ∷ rows) = ap (λ rs. r ∷ rs) (rows_some rows)
 
-mapped_slot : {X : Type 0} (c : X → X) (slots : List (Option X)) (s : ℕ) → in_slot (map (option_map c) slots) s ≡ option_map c (in_slot slots s)
-mapped_slot c [] s = refl
-mapped_slot c (o ∷ slots) zero = refl
-mapped_slot c (o ∷ slots) (suc s) = mapped_slot c slots s
-
 module _ {X : Type 0} {key bytes : X → ℕ} {most most_bytes : ℕ} where
   -- what contracts see of a table
   pub table_of : {index : Indexed} {pool : Pooled X} {texts : ℕ} {value : Held X} → IsTable key bytes most most_bytes index pool texts (held_in index pool) → held_in index pool ≡ value → IsTable key bytes most most_bytes index pool texts value
@@ -68,9 +64,6 @@ module _ {X : Type 0} {key bytes : X → ℕ} {most most_bytes : ℕ} where
     -- ---- what is answered
     some_of : (n : ℕ) → is_some (slot_in index.entries n) ≡ is_some (row_of key n value.rows)
     some_of n = sym (is_some-mapped (in_slot pool.slots) (slot_in index.entries n)) ∙ (ap is_some (table.found n) ∙ is_some-mapped Some (row_of key n value.rows))
-
-    pub has_slot : (n : ℕ) → has_row key n value.rows ≡ true → IsSome (slot_in index.entries n)
-    has_slot n h = some_of n ∙ (is_some-find (λ r. key r == n) value.rows ∙ h)
 
     pub has_number : (n : ℕ) → has_row number_of n index.entries ≡ has_row key n value.rows
     has_number n =
@@ -99,26 +92,17 @@ module _ {X : Type 0} {key bytes : X → ℕ} {most most_bytes : ℕ} where
     is_full n slot h = ap is_some (row_in_slot n slot h) ∙ (sym (some_of n) ∙ ap is_some h)
 
     -- by the note of a number, which is a slot only if the number is there
-    slot_noted : (n : ℕ) (o : Option Entry) → row_of number_of n index.entries ≡ o → length pool.slots < 65536 → in_slot pool.slots (noted o) ≡ row_of key n value.rows
-    slot_noted n None h few = get_or_past pool.slots 65535 None (omega (arith, few)) ∙ no_row n (ap (option_map slot_of) h)
-    slot_noted n (Some e) h few = row_in_slot n e.slot (ap (option_map slot_of) h)
+    by_note : (n : ℕ) (o : Option Entry) → row_of number_of n index.entries ≡ o → (noted o ≡ 65535 → length pool.slots < 65536) → in_slot pool.slots (noted o) ≡ row_of key n value.rows
+    by_note n None h few = get_or_past pool.slots 65535 None (omega (arith, few refl)) ∙ no_row n (ap (option_map slot_of) h)
+    by_note n (Some e) h few = row_in_slot n e.slot (ap (option_map slot_of) h)
 
-    pub row_noted : (n note : ℕ) → note ≡ noted (row_of number_of n index.entries) → length pool.slots < 65536 → in_slot pool.slots note ≡ row_of key n value.rows
-    row_noted n note is few = ap (in_slot pool.slots) is ∙ slot_noted n (row_of number_of n index.entries) refl few
-
-    row_below : (n : ℕ) (o : Option Entry) → row_of number_of n index.entries ≡ o → noted o < 65535 → in_slot pool.slots (noted o) ≡ row_of key n value.rows
-    row_below n None h below = absurd (omega (arith, below))
-    row_below n (Some e) h below = row_in_slot n e.slot (ap (option_map slot_of) h)
-
-    pub row_of_slot : (n note : ℕ) → note ≡ noted (row_of number_of n index.entries) → note < 65535 → in_slot pool.slots note ≡ row_of key n value.rows
-    row_of_slot n note is below = ap (in_slot pool.slots) is ∙ row_below n (row_of number_of n index.entries) refl (omega (arith, is, below))
-
-    own_slot : (n : ℕ) (o : Option Entry) → row_of number_of n index.entries ≡ o → IsSome (slot_in index.entries n) → slot_in index.entries n ≡ Some (noted o)
-    own_slot n None h some = absurd (clash (is_some (slot_in index.entries n)) some (ap is_some (ap (option_map slot_of) h)))
-    own_slot n (Some e) h some = ap (option_map slot_of) h
+    pub row_noted : (n note : ℕ) → note ≡ noted (row_of number_of n index.entries) → (note ≡ 65535 → length pool.slots < 65536) → in_slot pool.slots note ≡ row_of key n value.rows
+    row_noted n note is few = ap (in_slot pool.slots) is ∙ by_note n (row_of number_of n index.entries) refl (λ none. few (is ∙ none))
 
     pub slot_there : (n note : ℕ) → note ≡ noted (row_of number_of n index.entries) → has_row key n value.rows ≡ true → slot_in index.entries n ≡ Some note
-    slot_there n note is there = own_slot n (row_of number_of n index.entries) refl (has_slot n there) ∙ ap Some (sym is)
+    slot_there n note is there =
+        let f = has_found number_of n index.entries (has_number n ∙ there) in
+        ap (option_map slot_of) f.is ∙ ap Some (sym (is ∙ ap noted f.is))
 
     -- the slots of the entries have the rows, in their order
     listed : map (λ e. in_slot pool.slots e.slot) index.entries ≡ map Some value.rows
@@ -143,11 +127,6 @@ module _ {X : Type 0} {key bytes : X → ℕ} {most most_bytes : ℕ} where
         of_some (in_slot pool.slots e.slot) (slice_get value.rows p)
         (sym (ap (option_map (λ (e : Entry). in_slot pool.slots e.slot)) h)
         ∙ (sym (slice_get-map (λ (e : Entry). in_slot pool.slots e.slot) index.entries p) ∙ (ap (λ (os : List (Option X)). slice_get os p) listed ∙ slice_get-map Some value.rows p)))
-
-    pub no_change : (n : ℕ) (c : X → X) → slot_in index.entries n ≡ None → value ≡ record value { rows = with_change key n c value.rows }
-    no_change n c h =
-        let absent : has_row key n value.rows ≡ false = sym (is_some-find _ value.rows) ∙ ap is_some (sym (no_row n h)) in
-        ap (λ (rs : List X). held_of rs value.room) (sym (change_absent key n c value.rows absent))
 
     pub small_at : (n : ℕ) (r : X) → row_of key n value.rows ≡ Some r → bytes r ≤ most_bytes
     small_at n r is = le_is (bytes r) most_bytes (all_found (λ row. nat_le (bytes row) most_bytes) (λ row. key row == n) value.rows r table.held.small is)
@@ -280,9 +259,9 @@ module _ {X : Type 0} {key bytes : X → ℕ} {most most_bytes : ℕ} where
           | inr absent ↦
               let none = none_found key value.rows n absent in
               let no_slot : slot_in index.entries n ≡ None = ap (option_map slot_of) (none_found number_of index.entries n (has_number n ∙ absent)) in
-              let vacant : in_slot pool.slots note ≡ None = row_noted n note is few ∙ none in
+              let vacant : in_slot pool.slots note ≡ None = row_noted n note is (λ past. few) ∙ none in
               let kept : Puts pool.slots new.slots note None = subst (λ (o : Option X). Puts pool.slots new.slots note (option_map c o)) vacant put in
-              subst (IsTable key bytes most most_bytes index new texts) (no_change n c no_slot)
+              subst (IsTable key bytes most most_bytes index new texts) (ap (λ (rs : List X). held_of rs value.room) (sym (change_absent key n c value.rows absent)))
               (table_edited new n note None kept (λ r was. absurd (none-some r (sym vacant ∙ was))) same index.entries value.rows texts
               (λ m other. refl) (λ m other. refl) no_slot none table.ascending table.held.ascending table.held.small table.held.few table.texts_are (held ∙ table.counted))
         ]
@@ -311,4 +290,4 @@ module _ {X : Type 0} {key bytes : X → ℕ} {most most_bytes : ℕ} where
         at n None h = ap (λ (p : Option X). option_map Some (option_map c p)) (no_row n h)
         at n (Some s) h =
             let f = some_row (in_slot pool.slots s) (is_full n s h) in
-            ap Some (mapped_slot c pool.slots s ∙ ap (option_map c) f.is) ∙ sym (ap (λ (p : Option X). option_map Some (option_map c p)) (sym (row_in_slot n s h) ∙ f.is))
+            ap Some (get_or-map (option_map c) pool.slots s None ∙ ap (option_map c) f.is) ∙ sym (ap (λ (p : Option X). option_map Some (option_map c p)) (sym (row_in_slot n s h) ∙ f.is))

@@ -1,8 +1,9 @@
 -- Quotas whose thresholds stand apart, since they are those of the template already.
-use Rattle.std.proofs.Common.{◌≡◌, ℕ, ◌+◌, ◌==◌, ◌&&◌, ◌||◌, not, Bool, true, false, cond, List, [], ◌∷◌, ◌++◌, Option, Some, None, suc, zero, drop, refl, sym, ◌∙◌, ap, append_assoc}
+use Rattle.std.proofs.Common.{◌≡◌, ℕ, ◌+◌, ◌==◌, ◌&&◌, ◌||◌, not, Bool, true, false, cond, List, [], ◌∷◌, ◌++◌, Option, Some, None, drop, refl, sym, ◌∙◌, ap, append_assoc}
 use Rattle.std.proofs.lemmas.List.{map-append}
-use Rattle.std.proofs.lemmas.List.Sums.{sum_by-cons}
-use Rattle.std.proofs.lemmas.Option.{same_Some, slice_get-map}
+use Rattle.std.proofs.lemmas.List.Elements.{All-get_or}
+use Rattle.std.proofs.lemmas.List.Sums.{AllPass-from_list_all, sum_by-cons}
+use Rattle.std.proofs.lemmas.Option.{get_or_from_slice_get, same_Some, slice_get-map, slice_get_within}
 use Rattle.std.specs.Bool.{beq}
 use Rattle.std.specs.Cmp.Lexicographic.{pointwise}
 use Rattle.std.specs.List.{list_all}
@@ -31,18 +32,16 @@ unrun_action o h = at o.last_run h
     at None e = refl
     at (Some run) e = cc
 
-unrun_actions : (actions : List Action) → list_all (λ action. is_none action.last_run) actions ≡ true → map unrun actions ≡ actions
-unrun_actions [] h = refl
-unrun_actions (o ∷ actions) h =
-    let parts = both (is_none o.last_run) (list_all (λ action. is_none action.last_run) actions) h in
-    ap (λ x. x ∷ map unrun actions) (unrun_action o parts.0) ∙ ap (λ xs. o ∷ xs) (unrun_actions actions parts.1)
+same_all : {X : Type 0} (f : X → X) (p : X → Bool) → ((x : X) → p x ≡ true → f x ≡ x) → (xs : List X) → list_all p xs ≡ true → map f xs ≡ xs
+same_all f p same [] all = refl
+same_all f p same (x ∷ xs) all =
+    let parts = both (p x) (list_all p xs) all in
+    ap (λ y. y ∷ map f xs) (same x parts.0) ∙ ap (λ ys. x ∷ ys) (same_all f p same xs parts.1)
 
 unrun_lists : (thresholds : List Threshold) → list_all is_unrun thresholds ≡ true → map unrun_threshold thresholds ≡ thresholds
-unrun_lists [] h = refl
-unrun_lists (t ∷ thresholds) h =
-    let parts = both (is_unrun t) (list_all is_unrun thresholds) h in
-    ap (λ (actions : List Action). record t { actions = actions } ∷ map unrun_threshold thresholds) (unrun_actions t.actions parts.0)
-    ∙ ap (λ xs. t ∷ xs) (unrun_lists thresholds parts.1)
+unrun_lists =
+    same_all unrun_threshold is_unrun
+    (λ t is. ap (λ (actions : List Action). record t { actions = actions }) (same_all unrun (λ action. is_none action.last_run) unrun_action t.actions is))
 
 kind_own : (b : Bool) → beq b b ≡ true
 kind_own true = refl
@@ -58,12 +57,10 @@ same_lists template quota is has =
 
 -- ---- quotas that keep their thresholds
 pub kept : (mode : Update) (old new : TemplateRow) (quotas : List QuotaRow) (place : ℕ) (quota : QuotaRow) → list_all (keeps mode old new) quotas ≡ true → slice_get quotas place ≡ Some quota → is_reached mode old quota ≡ true → has_thresholds new quota ≡ true
-kept mode old new [] place quota all at reached = cc
-kept mode old new (q ∷ quotas) zero quota all at reached =
-    let own = (both (keeps mode old new q) (list_all (keeps mode old new) quotas) all).0 in
-    ap (λ b. not b || has_thresholds new quota) (sym reached) ∙ (ap (keeps mode old new) (sym (same_Some q quota at)) ∙ own)
-kept mode old new (q ∷ quotas) (suc place) quota all at reached =
-    kept mode old new quotas place quota (both (keeps mode old new q) (list_all (keeps mode old new) quotas) all).1 at reached
+kept mode old new quotas place quota all at reached =
+    let within = slice_get_within quotas place quota at in
+    let own = All-get_or (λ q. keeps mode old new q ≡ true) quotas place quota within (AllPass-from_list_all (keeps mode old new) quotas all) in
+    ap (λ b. not b || has_thresholds new quota) (sym reached) ∙ (ap (keeps mode old new) (sym (get_or_from_slice_get quotas place quota quota at)) ∙ own)
 
 -- so their texts stay
 pub same_texts : (mode : Update) (old new : TemplateRow) (quotas : List QuotaRow) → is_template new ≡ true → list_all (keeps mode old new) quotas ≡ true → quota_texts (map (updated mode old new) quotas) ≡ quota_texts quotas

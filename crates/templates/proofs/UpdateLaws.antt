@@ -1,7 +1,7 @@
 -- The quotas that an update reaches: what their texts are, when it is refused, and how they take the places of those that they were.
-use Rattle.std.proofs.Common.{◌≡◌, ℕ, ◌+◌, ◌<◌, ◌≤◌, ◌==◌, nat_le, nat_lt, Bool, true, false, cond, List, [], ◌∷◌, ◌++◌, length, set, take, drop, Option, Some, None, refl, sym, ◌∙◌, ap, subst, append_assoc, length-append, length-drop, length-take, arith}
+use Rattle.std.proofs.Common.{◌≡◌, ℕ, ◌+◌, ◌<◌, ◌≤◌, ◌==◌, nat_le, nat_lt, Bool, true, false, cond, List, [], ◌∷◌, ◌++◌, length, set, take, drop, get_or, Option, Some, None, refl, sym, ◌∙◌, ap, subst, append_assoc, length-append, length-drop, length-take, arith}
 use Rattle.std.proofs.lemmas.List.{append-nil, drop_all, drop_more, get_or_at, length-map, length-take-le, set_at, take_all, take_more}
-use Rattle.std.proofs.lemmas.Option.{get_or_from_slice_get, same_Some, slice_get-get_or, slice_get_within}
+use Rattle.std.proofs.lemmas.Option.{get_or_from_slice_get, same_Some, slice_get_within}
 use Rattle.std.specs.Borrow.{MutBor}
 use Rattle.std.specs.List.{AllByRecursion}
 use Rattle.std.specs.Option.{option_copied_mut}
@@ -127,13 +127,11 @@ module _ (new : TemplateRow) (reached : List QuotaRow) (after now : Tables) (row
       let many = length-take-le place reached (omega arith) in
       let swapped : rows ≡ done ++ made ∷ later = half.swapped ∙ ap (λ (qs : List QuotaRow). done ++ map (as_template new) qs) left in
       let is : row ≡ made =
-      same_Some row made (sym read ∙ (ap (λ (rs : List QuotaRow). slice_get rs place) swapped
-      ∙ (slice_get-get_or (done ++ made ∷ later) place made (omega (arith, many, length-append done (made ∷ later))) ∙ ap Some (get_or_at done made later made place many)))) in
+      sym (get_or_from_slice_get rows place row row read) ∙ (ap (λ (rs : List QuotaRow). get_or rs place row) swapped ∙ get_or_at done made later row place many) in
       let are = subst (AreThere now.quotas) left half.are_there in
       let is_there : row_of folder_of row.folder now.quotas ≡ Some f.row = ap (λ (r : QuotaRow). row_of folder_of r.folder now.quotas) is ∙ are.0 in
       let ascending = subst (λ (qs : List QuotaRow). is_ascending folder_of qs ≡ true) left half.ascending in
-      let absent : has_row folder_of row.folder rest ≡ false =
-      ap (λ (r : QuotaRow). has_row folder_of r.folder rest) is ∙ absent_later folder_of f.row.folder f.row rest (omega arith) ascending in
+      let absent : has_row folder_of row.folder rest ≡ false = rw is (absent_later folder_of f.row.folder f.row rest (omega arith) ascending) in
       let taken : take (place + 1) reached ≡ done ++ f.row ∷ [] =
       take_more reached place f.row within ∙ ap (λ (q : QuotaRow). done ++ q ∷ []) (get_or_from_slice_get reached place f.row f.row f.is) in
       record {

@@ -1,8 +1,7 @@
-use Rattle.std.proofs.Common.{◌<◌, List, ◌++◌, ◌∷◌, [], length, take, sym, subst, arith}
+use Rattle.std.proofs.Common.{◌<◌, ◌++◌, ◌∷◌, [], length, take, sym, arith}
 use Rattle.std.proofs.lemmas.List.{take_all}
 use Rattle.std.proofs.lemmas.Option.{get_or_from_slice_get}
 use Rattle.fsrm_model.specs.declared.row.GroupRow.{GroupRow}
-use Rattle.name_patterns.specs.Ends.{Cover}
 use Rattle.name_patterns.proofs.EndLaws.{some_more}
 use Rattle.file_groups.specs.Folded.{in_group_folded, in_some_group}
 use Rattle.file_groups.proofs.held.ends_of_groups.Goals as goal
@@ -17,6 +16,4 @@ loop-place-preserved c = λ cs character is.
     (some_more (λ (g : GroupRow). in_group_folded g (cs ++ character ∷ [])) rows l.place group within (sym (get_or_from_slice_get rows l.place group group c.at.ensures)) is)
 
 pub returns : goal.returns
-returns c =
-    let l = c.loop-place in
-    subst (λ (rows : List GroupRow). Cover l.ends (in_some_group rows)) (take_all l.place c.args.groups.now.rows (omega (arith, c.len-place-end.ensures.count, c.loop-place-test.false))) l.invariant
+returns c = rw (take_all c.loop-place.place c.args.groups.now.rows (omega (arith, c.len-place-end.ensures.count, c.loop-place-test.false))) at c.loop-place.invariant

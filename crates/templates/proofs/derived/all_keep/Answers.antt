@@ -1,4 +1,4 @@
-use Rattle.std.proofs.Common.{◌+◌, ◌&&◌, drop, sym, ◌∙◌, ap, arith}
+use Rattle.std.proofs.Common.{sym, ◌∙◌, ap, arith}
 use Rattle.std.proofs.lemmas.List.{drop_all}
 use Rattle.std.specs.List.{list_all}
 use Rattle.templates.specs.Reached.{keeps}
@@ -8,20 +8,14 @@ use Rattle.templates.proofs.derived.all_keep.Goals as goal
 pub returns-then-not-keeps : goal.returns-then-not-keeps
 returns-then-not-keeps c =
     let all = list_all (keeps c.args.mode c.args.old.now c.args.new.now) in
-    let quotas = c.args.objects.now.quotas in
-    let place = c.loop-place.place in
-    sym (c.loop-place.invariant
-    ∙ (ap all (left_from quotas place c.quota_at.result.now c.quota_at.ensures)
-    ∙ ap (λ b. b && all (drop (place + 1) quotas)) (sym c.keeps.ensures ∙ c.if-not-keeps.true)))
+    let step = ap all (left_from c.args.objects.now.quotas c.loop-place.place c.quota_at.result.now c.quota_at.ensures) in
+    sym (c.loop-place.invariant ∙ (rw (sym c.keeps.ensures ∙ c.if-not-keeps.true) at step))
 
 pub loop-place-preserved : goal.loop-place-preserved
 loop-place-preserved c =
     let all = list_all (keeps c.args.mode c.args.old.now c.args.new.now) in
-    let quotas = c.args.objects.now.quotas in
-    let place = c.loop-place.place in
-    c.loop-place.invariant
-    ∙ (ap all (left_from quotas place c.quota_at.result.now c.quota_at.ensures)
-    ∙ ap (λ b. b && all (drop (place + 1) quotas)) (sym c.keeps.ensures ∙ c.if-not-keeps.false))
+    let step = ap all (left_from c.args.objects.now.quotas c.loop-place.place c.quota_at.result.now c.quota_at.ensures) in
+    c.loop-place.invariant ∙ (rw (sym c.keeps.ensures ∙ c.if-not-keeps.false) at step)
 
 pub returns : goal.returns
 returns c =

@@ -88,8 +88,7 @@ returns-clause-ok c = (at_end _ _ _ _ _ _ c.loop-place.invariant.half (omega (ar
 
 pub returns-clause-reached : goal.returns-clause-reached
 returns-clause-reached c =
-    ap (λ (ts : List Threshold). map (whole ts) c.loop-place.rows) c.loop-place.invariant.apart
-    ∙ (at_end _ _ _ _ _ _ c.loop-place.invariant.half (omega (arith, c.loop-place.invariant.many, c.loop-place-test.false))).1
+    rw c.loop-place.invariant.apart (at_end _ _ _ _ _ _ c.loop-place.invariant.half (omega (arith, c.loop-place.invariant.many, c.loop-place-test.false))).1
 
 pub returns-clause-apart : goal.returns-clause-apart
 returns-clause-apart c = c.loop-place.invariant.apart

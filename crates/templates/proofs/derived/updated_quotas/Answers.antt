@@ -1,22 +1,14 @@
-use Rattle.std.proofs.Common.{◌+◌, List, ◌++◌, sym, ◌∙◌, ap, drop, arith}
+use Rattle.std.proofs.Common.{refl, sym, ◌∙◌, arith}
 use Rattle.std.proofs.lemmas.List.{append-nil, drop_all}
-use Rattle.std.specs.Prelude.{filter, map}
-use Rattle.fsrm_model.specs.declared.row.QuotaRow.{QuotaRow}
+use Rattle.std.specs.Prelude.{map}
 use Rattle.fsrm_model.specs.objects.Templates.{as_template, is_reached}
-use Rattle.templates.specs.declared.reached.Was.{Was}
 use Rattle.templates.specs.Reached.{has_thresholds, stand_apart, whole}
 use Rattle.templates.proofs.ReachedLaws.{kept, left_out, passed}
 use Rattle.templates.proofs.derived.updated_quotas.Goals.{then-is_reached+in_ok-as_template+in_ok-push, else-is_reached}
 use Rattle.templates.proofs.derived.updated_quotas.Goals as goal
 
 pub loop-place-init : goal.loop-place-init
-loop-place-init c =
-    let new = c.args.new.now in
-    let reached = filter (is_reached c.args.mode c.args.old.now) c.args.objects.now.quotas in
-    record {
-      made = ap (λ (rs : List Was). map (whole new.thresholds) rs ++ map (as_template new) reached) c.new-rows.ensures;
-      alike = ap (λ (rs : List Was). map stand_apart rs ++ map (has_thresholds new) reached) c.new-rows.ensures;
-    }
+loop-place-init c = record { made = rw c.new-rows.ensures refl; alike = rw c.new-rows.ensures refl }
 
 pub stands_apart-apart-requires : goal.stands_apart-apart-requires
 stands_apart-apart-requires c = λ same.
@@ -39,33 +31,23 @@ loop-place-preserved c =
           let yes = sym c.is_reached.ensures ∙ w.if-is_reached.true in
           let pushed = w.rows-is ∙ w.in_ok-push.ensures.ok in
           record {
-            made = ap (λ (rs : List Was). map (whole new.thresholds) rs ++ map (as_template new) (filter p (drop (place + 1) quotas))) pushed
-                ∙ passed (whole new.thresholds) (as_template new) p quotas place quota at rows so_far.made was yes w.in_ok-as_template.ensures.row;
-            alike = ap (λ (rs : List Was). map stand_apart rs ++ map (has_thresholds new) (filter p (drop (place + 1) quotas))) pushed
-                ∙ passed stand_apart (has_thresholds new) p quotas place quota at rows so_far.alike was yes (w.in_ok-as_template.ensures.apart ∙ w.stands_apart-apart.ensures);
+            made = rw pushed (passed (whole new.thresholds) (as_template new) p quotas place quota at rows so_far.made was yes w.in_ok-as_template.ensures.row);
+            alike = rw pushed (passed stand_apart (has_thresholds new) p quotas place quota at rows so_far.alike was yes (w.in_ok-as_template.ensures.apart ∙ w.stands_apart-apart.ensures));
           }
       | else-is_reached w ↦
           let no = sym c.is_reached.ensures ∙ w.if-is_reached.false in
           record {
-            made = ap (λ (rs : List Was). map (whole new.thresholds) rs ++ map (as_template new) (filter p (drop (place + 1) quotas))) w.rows-is
-                ∙ left_out (whole new.thresholds) (as_template new) p quotas place quota at rows so_far.made no;
-            alike = ap (λ (rs : List Was). map stand_apart rs ++ map (has_thresholds new) (filter p (drop (place + 1) quotas))) w.rows-is
-                ∙ left_out stand_apart (has_thresholds new) p quotas place quota at rows so_far.alike no;
+            made = rw w.rows-is (left_out (whole new.thresholds) (as_template new) p quotas place quota at rows so_far.made no);
+            alike = rw w.rows-is (left_out stand_apart (has_thresholds new) p quotas place quota at rows so_far.alike no);
           }
     ]
 
 pub returns-clause-made : goal.returns-clause-made
 returns-clause-made c =
-    let made = map (whole c.args.new.now.thresholds) c.loop-place.rows in
-    let change = as_template c.args.new.now in
-    let p = is_reached c.args.mode c.args.old.now in
     let none = drop_all c.loop-place.place c.args.objects.now.quotas (omega (arith, c.quota_count-place-end.ensures.count, c.loop-place-test.false)) in
-    sym (append-nil made) ∙ (sym (ap (λ (quotas : List QuotaRow). made ++ map change (filter p quotas)) none) ∙ c.loop-place.invariant.made)
+    sym (append-nil (map (whole c.args.new.now.thresholds) c.loop-place.rows)) ∙ (rw none at c.loop-place.invariant.made)
 
 pub returns-clause-alike : goal.returns-clause-alike
 returns-clause-alike c =
-    let made = map stand_apart c.loop-place.rows in
-    let has = has_thresholds c.args.new.now in
-    let p = is_reached c.args.mode c.args.old.now in
     let none = drop_all c.loop-place.place c.args.objects.now.quotas (omega (arith, c.quota_count-place-end.ensures.count, c.loop-place-test.false)) in
-    sym (append-nil made) ∙ (sym (ap (λ (quotas : List QuotaRow). made ++ map has (filter p quotas)) none) ∙ c.loop-place.invariant.alike)
+    sym (append-nil (map stand_apart c.loop-place.rows)) ∙ (rw none at c.loop-place.invariant.alike)

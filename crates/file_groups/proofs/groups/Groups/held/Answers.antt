@@ -1,16 +1,15 @@
 use Rattle.std.proofs.Common.{◌∙◌, ap, sym}
 use Rattle.std.specs.Option.{option_copied}
 use Rattle.std.specs.Prelude.{◌==◌}
-use Rattle.fsrm_base.specs.Keyed.{has_row}
 use Rattle.fsrm_base.proofs.Members.{all_found}
+use Rattle.fsrm_base.proofs.SortedRows.{has_lent}
 use Rattle.fsrm_model.specs.values.Limits.{most_groups}
 use Rattle.fsrm_model.specs.values.Patterns.{group_name, group_number, is_group}
 use Rattle.fsrm_model.proofs.valid.NamesApart.{named_parts}
-use Rattle.row_table.proofs.HeldLaws.{lent_there}
 use Rattle.file_groups.proofs.groups.Groups.held.Goals as goal
 
 pub unwrap-requires : goal.unwrap-requires
-unwrap-requires c = lent_there group_number c.args.number c.self.inside.groups.rows c.get.result (ap (has_row group_number c.args.number) c.self.view_is ∙ c.requires) c.get.ensures.row
+unwrap-requires c = has_lent group_number c.args.number c.self.inside.groups.rows c.get.result c.get.ensures.row ∙ (rw (← c.self.view_is) at c.requires)
 
 pub returns-clause-valid : goal.returns-clause-valid
 returns-clause-valid c =

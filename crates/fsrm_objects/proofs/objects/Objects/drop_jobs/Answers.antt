@@ -1,4 +1,4 @@
-use Rattle.std.proofs.Common.{◌≡◌, ◌==◌, ◌<◌, List, length, sym, ap, ◌∙◌, arith}
+use Rattle.std.proofs.Common.{◌==◌, List, length, sym, ap, ◌∙◌, arith}
 use Rattle.fsrm_model.specs.declared.row.JobRow.{JobRow}
 use Rattle.fsrm_model.specs.objects.Jobs.{job_number}
 use Rattle.fsrm_objects.specs.Tables.{Tables}
@@ -13,12 +13,12 @@ pub loop-number-smaller : goal.loop-number-smaller
 loop-number-smaller c =
     let it = first job_number (λ (job : JobRow). job.scope == c.args.folder) c.in-Some.number c.loop-number.self.jobs c.in-Some.ensures.ascending c.in-Some.ensures.first in
     let same = ap (λ (t : Tables). length t.jobs) c.drop_job.ensures in
-    omega (arith, same, it.gone.less)
+    omega (arith, same, it.less)
 
 pub loop-number-preserved : goal.loop-number-preserved
 loop-number-preserved c =
     let it = first job_number (λ (job : JobRow). job.scope == c.args.folder) c.in-Some.number c.loop-number.self.jobs c.in-Some.ensures.ascending c.in-Some.ensures.first in
-    rw c.drop_job.ensures (ap (λ (jobs : List JobRow). record c.loop-number.self { jobs = jobs }) it.gone.same ∙ c.loop-number.invariant)
+    rw c.drop_job.ensures (ap (λ (jobs : List JobRow). record c.loop-number.self { jobs = jobs }) it.same ∙ c.loop-number.invariant)
 
 pub returns : goal.returns
 returns c =
