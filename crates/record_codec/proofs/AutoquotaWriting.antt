@@ -8,7 +8,7 @@ use Rattle.fsrm_base.proofs.TestLaws.{both, both_true}
 use Rattle.fsrm_model.specs.commands.Commands.{form_of_autoquota, is_new_autoquota}
 use Rattle.fsrm_model.specs.commands.Entry.{path_bytes}
 use Rattle.fsrm_model.specs.declared.command.AutoquotaDeed.{AutoquotaDeed}
-use Rattle.fsrm_model.specs.declared.command.AutoquotaDeed.TheVariants.{Add as AutoquotaAdd, Delete as AutoquotaDelete, List as AutoquotaList}
+use Rattle.fsrm_model.specs.declared.command.AutoquotaDeed.TheVariants.{Add as AutoquotaAdd, Delete as AutoquotaDelete}
 use Rattle.fsrm_model.specs.declared.command.NewAutoquota.{NewAutoquota}
 use Rattle.fsrm_model.specs.store.Valued.{is_path, is_short_path}
 use Rattle.fsrm_model.specs.values.Limits.{most_excluded}
@@ -38,10 +38,10 @@ pub autoquota_legal : (deed : AutoquotaDeed) → list_all is_path (form_of_autoq
     → autoquota_typed deed ≡ true → autoquota_is_legal deed ≡ true
 autoquota_legal (AutoquotaAdd new) names short is typed = new_autoquota_legal new names short is typed
 autoquota_legal (AutoquotaDelete at) names short is typed = first_path at names short typed
-autoquota_legal AutoquotaList names short is typed = refl
+autoquota_legal other names short is typed = refl
 
 pub autoquota_long : (deed : AutoquotaDeed) → is_some (autoquota_kind_in deed) ≡ true → length (autoquota_spelled deed) ≡ 1 + autoquota_bytes deed
 autoquota_long (AutoquotaAdd new) there =
     two _ _ _ _ (one_byte 30) (two _ _ _ _ (path_long new.path) (two _ _ _ _ (text_long new.template) (texts_long new.excluded))) ∙ omega arith
 autoquota_long (AutoquotaDelete at) there = two _ _ _ _ (one_byte 31) (path_long at) ∙ omega arith
-autoquota_long AutoquotaList there = absurd (cc there)
+autoquota_long other there = absurd (cc there)

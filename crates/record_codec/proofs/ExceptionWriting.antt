@@ -8,7 +8,7 @@ use Rattle.fsrm_base.proofs.TestLaws.{both, both_true}
 use Rattle.fsrm_model.specs.commands.Commands.{form_of_exception, is_new_exception}
 use Rattle.fsrm_model.specs.commands.Entry.{path_bytes, text_bytes, counted}
 use Rattle.fsrm_model.specs.declared.command.ExceptionDeed.{ExceptionDeed}
-use Rattle.fsrm_model.specs.declared.command.ExceptionDeed.TheVariants.{Add as ExceptionAdd, Delete as ExceptionDelete, List as ExceptionList}
+use Rattle.fsrm_model.specs.declared.command.ExceptionDeed.TheVariants.{Add as ExceptionAdd, Delete as ExceptionDelete}
 use Rattle.fsrm_model.specs.declared.command.NewException.{NewException}
 use Rattle.fsrm_model.specs.store.Valued.{is_path, is_short_path}
 use Rattle.record_codec.specs.Exceptions.{exception_kind_in, exception_deed, exception_spelled, exception_typed, new_exception, new_exception_typed}
@@ -33,9 +33,9 @@ pub exception_legal : (deed : ExceptionDeed) → list_all is_path (form_of_excep
     → exception_typed deed ≡ true → exception_bytes deed ≤ 131072 → exception_is_legal deed ≡ true
 exception_legal (ExceptionAdd new) names short is typed room = new_exception_legal new names short is typed (omega (arith, room))
 exception_legal (ExceptionDelete at) names short is typed room = first_path at names short typed
-exception_legal ExceptionList names short is typed room = refl
+exception_legal other names short is typed room = refl
 
 pub exception_long : (deed : ExceptionDeed) → is_some (exception_kind_in deed) ≡ true → length (exception_spelled deed) ≡ 1 + exception_bytes deed
 exception_long (ExceptionAdd new) there = two _ _ _ _ (one_byte 60) (two _ _ _ _ (path_long new.path) (texts_long new.groups)) ∙ omega arith
 exception_long (ExceptionDelete at) there = two _ _ _ _ (one_byte 61) (path_long at) ∙ omega arith
-exception_long ExceptionList there = absurd (cc there)
+exception_long other there = absurd (cc there)

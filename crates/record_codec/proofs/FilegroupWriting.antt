@@ -8,7 +8,7 @@ use Rattle.fsrm_model.specs.commands.Commands.{form_of_filegroup, is_new_filegro
 use Rattle.fsrm_model.specs.commands.Entry.{path_bytes, text_bytes, counted, optional}
 use Rattle.fsrm_model.specs.declared.command.FilegroupChange.{FilegroupChange}
 use Rattle.fsrm_model.specs.declared.command.FilegroupDeed.{FilegroupDeed}
-use Rattle.fsrm_model.specs.declared.command.FilegroupDeed.TheVariants.{Add as FilegroupAdd, Modify as FilegroupModify, Delete as FilegroupDelete, List as FilegroupList}
+use Rattle.fsrm_model.specs.declared.command.FilegroupDeed.TheVariants.{Add as FilegroupAdd, Modify as FilegroupModify, Delete as FilegroupDelete}
 use Rattle.fsrm_model.specs.declared.command.NewFilegroup.{NewFilegroup}
 use Rattle.fsrm_model.specs.values.Patterns.{is_object_name, are_members, are_non_members}
 use Rattle.record_fields.specs.Formats.{number_spelled, text_spelled, optional_legal, optional_spelled, listed_spelled}
@@ -53,7 +53,7 @@ pub filegroup_legal : (deed : FilegroupDeed) → (form_of_filegroup deed).legal 
 filegroup_legal (FilegroupAdd new) is typed = new_filegroup_legal new is typed
 filegroup_legal (FilegroupModify change) is typed = filegroup_change_legal change is typed
 filegroup_legal (FilegroupDelete name) is typed = object_name_legal name is typed
-filegroup_legal FilegroupList is typed = refl
+filegroup_legal other is typed = refl
 
 patterns_given : (o : Option (List (List ℕ))) → length (optional_spelled (listed_spelled (number_spelled 2) text_spelled) o) ≡ optional (counted text_bytes) o
 patterns_given o = option_long (listed_spelled (number_spelled 2) text_spelled) (counted text_bytes) texts_long o
@@ -64,4 +64,4 @@ filegroup_long (FilegroupAdd new) there =
 filegroup_long (FilegroupModify change) there =
     two _ _ _ _ (one_byte 41) (two _ _ _ _ (text_long change.name) (two _ _ _ _ (patterns_given change.members) (patterns_given change.non_members))) ∙ omega arith
 filegroup_long (FilegroupDelete name) there = two _ _ _ _ (one_byte 42) (text_long name) ∙ omega arith
-filegroup_long FilegroupList there = absurd (cc there)
+filegroup_long other there = absurd (cc there)

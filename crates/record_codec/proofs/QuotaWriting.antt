@@ -10,7 +10,7 @@ use Rattle.fsrm_model.specs.commands.Entry.{path_bytes, text_bytes, counted}
 use Rattle.fsrm_model.specs.declared.command.NewQuota.{NewQuota}
 use Rattle.fsrm_model.specs.declared.command.QuotaChange.{QuotaChange}
 use Rattle.fsrm_model.specs.declared.command.QuotaDeed.{QuotaDeed}
-use Rattle.fsrm_model.specs.declared.command.QuotaDeed.TheVariants.{Add as QuotaAdd, Modify as QuotaModify, Delete as QuotaDelete, Scan as QuotaScan, Resetpeak as QuotaResetpeak, List as QuotaList}
+use Rattle.fsrm_model.specs.declared.command.QuotaDeed.TheVariants.{Add as QuotaAdd, Modify as QuotaModify, Delete as QuotaDelete, Scan as QuotaScan, Resetpeak as QuotaResetpeak}
 use Rattle.fsrm_model.specs.objects.Quota.{is_limit}
 use Rattle.fsrm_model.specs.objects.Thresholds.{is_percent}
 use Rattle.fsrm_model.specs.store.Valued.{is_path, is_short_path}
@@ -73,7 +73,7 @@ quota_legal (QuotaModify change) names short is typed room =
 quota_legal (QuotaDelete at) names short is typed room = first_path at names short typed
 quota_legal (QuotaScan at) names short is typed room = first_path at names short typed
 quota_legal (QuotaResetpeak at) names short is typed room = first_path at names short typed
-quota_legal (QuotaList at) names short is typed room = refl
+quota_legal other names short is typed room = refl
 
 pub quota_long : (deed : QuotaDeed) → is_some (quota_kind_in deed) ≡ true → length (quota_spelled deed) ≡ 1 + quota_bytes deed
 quota_long (QuotaAdd new) some =
@@ -87,4 +87,4 @@ quota_long (QuotaModify change) some =
 quota_long (QuotaDelete at) some = two _ _ _ _ (one_byte 12) (path_long at) ∙ omega arith
 quota_long (QuotaScan at) some = two _ _ _ _ (one_byte 13) (path_long at) ∙ omega arith
 quota_long (QuotaResetpeak at) some = two _ _ _ _ (one_byte 14) (path_long at) ∙ omega arith
-quota_long (QuotaList at) some = absurd (cc some)
+quota_long other some = absurd (cc some)

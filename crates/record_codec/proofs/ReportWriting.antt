@@ -9,7 +9,7 @@ use Rattle.fsrm_model.specs.commands.Commands.{form_of_reports, is_filter, is_ne
 use Rattle.fsrm_model.specs.commands.Entry.{path_bytes, text_bytes}
 use Rattle.fsrm_model.specs.declared.command.NewJob.{NewJob}
 use Rattle.fsrm_model.specs.declared.command.ReportsDeed.{ReportsDeed}
-use Rattle.fsrm_model.specs.declared.command.ReportsDeed.TheVariants.{Generate as ReportsGenerate, Add as ReportsAdd, Delete as ReportsDelete, Run as ReportsRun, List as ReportsList}
+use Rattle.fsrm_model.specs.declared.command.ReportsDeed.TheVariants.{Add as ReportsAdd, Delete as ReportsDelete, Run as ReportsRun}
 use Rattle.fsrm_model.specs.declared.row.ReportKind.{ReportKind}
 use Rattle.fsrm_model.specs.declared.row.ReportKind.TheVariants.{LargeFiles, FilesByType, LeastRecentlyAccessed, MostRecentlyAccessed, QuotaUsage, FilesByOwner, DuplicateFiles, FileScreenAudit}
 use Rattle.fsrm_model.specs.objects.Jobs.{is_schedule}
@@ -56,8 +56,7 @@ pub job_legal : (deed : ReportsDeed) → list_all is_path (form_of_reports deed)
 job_legal (ReportsAdd new) names short is typed = new_job_legal new names short is typed
 job_legal (ReportsDelete name) names short is typed = object_name_legal name is typed
 job_legal (ReportsRun name) names short is typed = object_name_legal name is typed
-job_legal (ReportsGenerate new) names short is typed = refl
-job_legal ReportsList names short is typed = refl
+job_legal other names short is typed = refl
 
 pub job_long : (deed : ReportsDeed) → is_some (job_kind_in deed) ≡ true → length (job_spelled deed) ≡ 1 + job_bytes deed
 job_long (ReportsAdd new) there =
@@ -65,5 +64,4 @@ job_long (ReportsAdd new) there =
     (two _ _ _ _ (option_long text_spelled text_bytes text_long new.schedule) (filter_long new.filter))))) ∙ omega arith
 job_long (ReportsDelete name) there = two _ _ _ _ (one_byte 71) (text_long name) ∙ omega arith
 job_long (ReportsRun name) there = two _ _ _ _ (one_byte 72) (text_long name) ∙ omega arith
-job_long (ReportsGenerate new) there = absurd (cc there)
-job_long ReportsList there = absurd (cc there)
+job_long other there = absurd (cc there)

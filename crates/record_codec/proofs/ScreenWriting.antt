@@ -10,7 +10,7 @@ use Rattle.fsrm_model.specs.commands.Entry.{path_bytes, text_bytes, screen_notic
 use Rattle.fsrm_model.specs.declared.command.NewScreen.{NewScreen}
 use Rattle.fsrm_model.specs.declared.command.ScreenChange.{ScreenChange}
 use Rattle.fsrm_model.specs.declared.command.ScreenDeed.{ScreenDeed}
-use Rattle.fsrm_model.specs.declared.command.ScreenDeed.TheVariants.{Add as ScreenAdd, Modify as ScreenModify, Delete as ScreenDelete, List as ScreenList}
+use Rattle.fsrm_model.specs.declared.command.ScreenDeed.TheVariants.{Add as ScreenAdd, Modify as ScreenModify, Delete as ScreenDelete}
 use Rattle.fsrm_model.specs.objects.Thresholds.{is_new_action}
 use Rattle.fsrm_model.specs.store.Valued.{is_path, is_short_path}
 use Rattle.fsrm_model.specs.values.Patterns.{is_object_name}
@@ -52,7 +52,7 @@ pub screen_legal : (deed : ScreenDeed) → list_all is_path (form_of_screen deed
 screen_legal (ScreenAdd new) names short is typed room = new_screen_legal new names short is typed (omega (arith, room)) (omega (arith, room))
 screen_legal (ScreenModify change) names short is typed room = screen_change_legal change names short is typed (omega (arith, room)) (omega (arith, room))
 screen_legal (ScreenDelete at) names short is typed room = first_path at names short typed
-screen_legal ScreenList names short is typed room = refl
+screen_legal other names short is typed room = refl
 
 pub screen_long : (deed : ScreenDeed) → is_some (screen_kind_in deed) ≡ true → length (screen_spelled deed) ≡ 1 + screen_bytes deed
 screen_long (ScreenAdd new) there =
@@ -62,4 +62,4 @@ screen_long (ScreenModify change) there =
     two _ _ _ _ (one_byte 51) (two _ _ _ _ (path_long change.path) (two _ _ _ _ (option_long truth.spell (λ b. 1) truth_long change.active)
     (two _ _ _ _ (texts_long change.removed) (texts_long change.groups)))) ∙ omega arith
 screen_long (ScreenDelete at) there = two _ _ _ _ (one_byte 52) (path_long at) ∙ omega arith
-screen_long ScreenList there = absurd (cc there)
+screen_long other there = absurd (cc there)

@@ -10,7 +10,7 @@ use Rattle.fsrm_model.specs.commands.Entry.{path_bytes, counted}
 use Rattle.fsrm_model.specs.declared.command.NewTemplate.{NewTemplate}
 use Rattle.fsrm_model.specs.declared.command.TemplateChange.{TemplateChange}
 use Rattle.fsrm_model.specs.declared.command.TemplateDeed.{TemplateDeed}
-use Rattle.fsrm_model.specs.declared.command.TemplateDeed.TheVariants.{Add as TemplateAdd, Modify as TemplateModify, Delete as TemplateDelete, List as TemplateList}
+use Rattle.fsrm_model.specs.declared.command.TemplateDeed.TheVariants.{Add as TemplateAdd, Modify as TemplateModify, Delete as TemplateDelete}
 use Rattle.fsrm_model.specs.declared.command.Update.{Update}
 use Rattle.fsrm_model.specs.declared.command.Update.TheVariants.{Keep, Matching, All}
 use Rattle.fsrm_model.specs.objects.Quota.{is_limit}
@@ -59,7 +59,7 @@ template_legal (TemplateModify change) is typed room =
     let t = both (is_utf8 change.name) (all_typed notice_typed change.thresholds.notices) typed in
     template_change_legal change is t.0 t.1 (omega (arith, room)) (omega (arith, room))
 template_legal (TemplateDelete name) is typed room = object_name_legal name is typed
-template_legal TemplateList is typed room = refl
+template_legal other is typed room = refl
 
 pub template_long : (deed : TemplateDeed) → is_some (template_kind_in deed) ≡ true → length (template_spelled deed) ≡ 1 + template_bytes deed
 template_long (TemplateAdd new) some =
@@ -69,4 +69,4 @@ template_long (TemplateModify change) some =
     (two _ _ _ _ (option_long truth.spell (λ b. 1) truth_long change.enforce) (two _ _ _ _ (list_long (number_spelled 8) (λ n. 8) eight_bytes change.removed)
     (two _ _ _ _ (new_thresholds_long change.thresholds) (one_byte (update_code change.update))))))) ∙ omega arith
 template_long (TemplateDelete name) some = two _ _ _ _ (one_byte 22) (text_long name) ∙ omega arith
-template_long TemplateList some = absurd (cc some)
+template_long other some = absurd (cc some)

@@ -75,7 +75,8 @@ pub fn put_autoquota_deed(deed: &AutoquotaDeed, into: &mut [u8], at: usize) -> u
             put_new_autoquota(new, into, after)
         }
         AutoquotaDeed::Delete { path } => put_on_path(31, path, into, at),
-        AutoquotaDeed::List => at,
+        // No journal keeps another.
+        _ => at,
     }
 }
 

@@ -10,9 +10,9 @@ ghost use Rattle.record_codec.specs.Entries.{entry as entry_format, decoded};
 use crate::deeds::read_deed;
 use crate::fault::CodecFault;
 use crate::kinds::{Kind, read_kind};
-use crate::numbers::{read_folder, read_moment};
+use crate::numbers::{FolderField, MomentField};
 use fsrm_model::{Command, Entry};
-use record_fields::{FieldFault, Flaw, Reader};
+use record_fields::{Field, FieldFault, Flaw, Reader};
 use std::alloc::Global;
 
 /// The entry that bytes spell, all of them.
@@ -60,14 +60,14 @@ fn bad_record(bytes: &[u8], left: usize) -> CodecFault
 fn read_entry(alloc: Global, reader: &mut Reader<'_>) -> Result<Entry, FieldFault>
     ensures { Gives result reader.new (entry_format.read reader.old) }
 {
-    let moment = read_moment(reader)?;
+    let moment = MomentField::read(alloc, reader)?;
     match read_kind(reader)? {
         Kind::Deed(kind) => {
             let deed = read_deed(alloc, reader, kind)?;
             Ok(Entry::Order(Command { moment, deed }))
         }
         Kind::Finish => {
-            let folder = read_folder(reader)?;
+            let folder = FolderField::read(alloc, reader)?;
             Ok(Entry::Finish { moment, folder })
         }
     }

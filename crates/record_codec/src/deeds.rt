@@ -124,7 +124,7 @@ pub fn put_deed(deed: &Deed, into: &mut [u8], at: usize) -> usize
         Deed::Screen(deed) => put_screen_deed(deed.as_ref(), into, at),
         Deed::Exception(deed) => put_exception_deed(deed.as_ref(), into, at),
         Deed::Reports(deed) => put_job_deed(deed.as_ref(), into, at),
-        Deed::Usage { .. } => at,
-        Deed::Step { .. } => at,
+        // No journal keeps another.
+        _ => at,
     }
 }

@@ -70,7 +70,8 @@ pub fn put_exception_deed(deed: &ExceptionDeed, into: &mut [u8], at: usize) -> u
             put_new_exception(new, into, after)
         }
         ExceptionDeed::Delete { path } => put_on_path(61, path, into, at),
-        ExceptionDeed::List => at,
+        // No journal keeps another.
+        _ => at,
     }
 }
 

@@ -6,55 +6,16 @@ ghost use Rattle.fsrm_model.specs.objects.Thresholds.{is_action_text};
 ghost use Rattle.fsrm_model.specs.values.Name.{is_name};
 ghost use Rattle.fsrm_model.specs.values.Patterns.{is_object_name, is_pattern};
 ghost use Rattle.record_fields.specs.Formats.{tested, text as text_format};
-ghost use Rattle.record_codec.specs.Fields.{limit, percent, members, non_members, excluded_names};
+ghost use Rattle.record_codec.specs.Fields.{members, non_members, excluded_names};
 
 use fsrm_base::{List, Text};
-use fsrm_model::limits::{
-    GREATEST_LIMIT, GREATEST_PERCENT, LEAST_LIMIT, MOST_EXCLUDED, MOST_PATTERNS,
-};
+use fsrm_model::limits::{MOST_EXCLUDED, MOST_PATTERNS};
 use name_patterns::is_pattern;
 use name_rules::is_name;
-use record_fields::{
-    Field, FieldFault, Flaw, Reader, put_short_list, put_text, put_u64, read_short_list,
-};
+use record_fields::{Field, FieldFault, Flaw, Reader, put_short_list, put_text, read_short_list};
 use std::alloc::Global;
 use std::marker::PhantomData;
 use text_rules::{is_action_text, is_object_name, is_schedule};
-
-/// A limit of a quota.
-pub struct LimitField;
-
-impl Field for LimitField {
-    type Value = u64;
-
-    ghost format = { limit };
-
-    fn read(_alloc: Global, reader: &mut Reader<'_>) -> Result<u64, FieldFault> {
-        Ok(reader.read_u64_within(LEAST_LIMIT, GREATEST_LIMIT)?)
-    }
-
-    fn write(value: &u64, into: &mut [u8], at: usize) -> usize {
-        put_u64(into, at, *value)
-    }
-}
-
-/// A percentage of a limit.
-pub struct PercentField;
-
-impl Field for PercentField {
-    type Value = u16;
-
-    ghost format = { percent };
-
-    fn read(_alloc: Global, reader: &mut Reader<'_>) -> Result<u16, FieldFault> {
-        let number = reader.read_u64_within(1, GREATEST_PERCENT as u64)?;
-        Ok(number as u16)
-    }
-
-    fn write(value: &u16, into: &mut [u8], at: usize) -> usize {
-        put_u64(into, at, *value as u64)
-    }
-}
 
 /// A rule that some texts meet.
 pub trait TextRule {

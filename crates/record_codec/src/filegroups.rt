@@ -101,7 +101,8 @@ pub fn put_filegroup_deed(deed: &FilegroupDeed, into: &mut [u8], at: usize) -> u
             let after = put_u8(into, at, 42);
             OwnText::put(name, into, after)
         }
-        FilegroupDeed::List => at,
+        // No journal keeps another.
+        _ => at,
     }
 }
 

@@ -6,7 +6,7 @@ ghost use Rattle.record_fields.specs.Writers.{Writes};
 ghost use Rattle.record_codec.specs.Files.{file_kind, file_op, file_spelled};
 ghost use Rattle.record_codec.specs.Writing.{file_typed};
 
-use crate::numbers::{read_length, read_owner};
+use crate::numbers::{LengthField, OwnerField};
 use crate::paths::{PathField, put_on_path, put_path};
 use fsrm_model::FileOp;
 use record_fields::{Field, FieldFault, Reader, put_u64};
@@ -50,16 +50,16 @@ pub fn read_op(alloc: Global, reader: &mut Reader<'_>, kind: FileKind) -> Result
     Ok(match kind {
         FileKind::Mkdir => FileOp::Mkdir {
             path: PathField::read(alloc, reader)?,
-            owner: read_owner(reader)?,
+            owner: OwnerField::read(alloc, reader)?,
         },
         FileKind::Create => FileOp::Create {
             path: PathField::read(alloc, reader)?,
-            length: read_length(reader)?,
-            owner: read_owner(reader)?,
+            length: LengthField::read(alloc, reader)?,
+            owner: OwnerField::read(alloc, reader)?,
         },
         FileKind::Resize => FileOp::Resize {
             path: PathField::read(alloc, reader)?,
-            length: read_length(reader)?,
+            length: LengthField::read(alloc, reader)?,
         },
         FileKind::Touch => FileOp::Touch {
             path: PathField::read(alloc, reader)?,

@@ -1,15 +1,14 @@
 //! What reports are asked for: their kinds, and which rows they have.
 
 ghost use Rattle.std.specs.Prelude.{◌≡◌, ◌≤◌, true, length};
-ghost use Rattle.record_fields.specs.Readers.{Gives, Shows};
+ghost use Rattle.record_fields.specs.Readers.{Gives};
 ghost use Rattle.record_fields.specs.Writers.{Writes};
-ghost use Rattle.record_codec.specs.Fields.{report_kind, owner as owner_format, file_length, days as days_format, least_use, row_count};
+ghost use Rattle.record_codec.specs.Fields.{report_kind};
 ghost use Rattle.record_codec.specs.Filters.{filter as filter_format, filter_typed};
 
 use crate::fields::PatternField;
-use crate::numbers::{read_length, read_owner};
+use crate::numbers::{DaysField, LeastUseField, LengthField, OwnerField, RowCountField};
 use crate::typed::{OwnText, put_some};
-use fsrm_model::limits::{MOST_DAYS, MOST_ROWS, MOST_USE};
 use fsrm_model::{Filter, ReportKind};
 use record_fields::{
     Field, FieldFault, Flaw, Reader, put_optional, put_u8, put_u64, read_optional,
@@ -41,102 +40,18 @@ impl Field for ReportKindField {
     }
 
     fn write(value: &ReportKind, into: &mut [u8], at: usize) -> usize {
-        put_report_kind(*value, into, at)
+        let code = match *value {
+            ReportKind::LargeFiles => 1,
+            ReportKind::FilesByType => 2,
+            ReportKind::LeastRecentlyAccessed => 3,
+            ReportKind::MostRecentlyAccessed => 4,
+            ReportKind::QuotaUsage => 5,
+            ReportKind::FilesByOwner => 6,
+            ReportKind::DuplicateFiles => 7,
+            ReportKind::FileScreenAudit => 8,
+        };
+        put_u8(into, at, code)
     }
-}
-
-fn put_report_kind(kind: ReportKind, into: &mut [u8], at: usize) -> usize
-    requires { at ≤ length into.old }
-    ensures { Writes into.old at into.new result (report_kind.spell kind) }
-{
-    let code = match kind {
-        ReportKind::LargeFiles => 1,
-        ReportKind::FilesByType => 2,
-        ReportKind::LeastRecentlyAccessed => 3,
-        ReportKind::MostRecentlyAccessed => 4,
-        ReportKind::QuotaUsage => 5,
-        ReportKind::FilesByOwner => 6,
-        ReportKind::DuplicateFiles => 7,
-        ReportKind::FileScreenAudit => 8,
-    };
-    put_u8(into, at, code)
-}
-
-/// The number of an owner.
-pub struct OwnerField;
-
-impl Field for OwnerField {
-    type Value = u32;
-
-    ghost format = { owner_format };
-
-    fn read(_alloc: Global, reader: &mut Reader<'_>) -> Result<u32, FieldFault> {
-        Ok(read_owner(reader)?)
-    }
-
-    fn write(value: &u32, into: &mut [u8], at: usize) -> usize {
-        put_u64(into, at, *value as u64)
-    }
-}
-
-/// The length of a file.
-pub struct LengthField;
-
-impl Field for LengthField {
-    type Value = u64;
-
-    ghost format = { file_length };
-
-    fn read(_alloc: Global, reader: &mut Reader<'_>) -> Result<u64, FieldFault> {
-        Ok(read_length(reader)?)
-    }
-
-    fn write(value: &u64, into: &mut [u8], at: usize) -> usize {
-        put_u64(into, at, *value)
-    }
-}
-
-/// How many days a report looks back.
-pub struct DaysField;
-
-impl Field for DaysField {
-    type Value = u32;
-
-    ghost format = { days_format };
-
-    fn read(_alloc: Global, reader: &mut Reader<'_>) -> Result<u32, FieldFault> {
-        let number = reader.read_u64_within(0, MOST_DAYS as u64)?;
-        Ok(number as u32)
-    }
-
-    fn write(value: &u32, into: &mut [u8], at: usize) -> usize {
-        put_u64(into, at, *value as u64)
-    }
-}
-
-/// The least percentage of a limit that a report shows.
-pub struct LeastUseField;
-
-impl Field for LeastUseField {
-    type Value = u32;
-
-    ghost format = { least_use };
-
-    fn read(_alloc: Global, reader: &mut Reader<'_>) -> Result<u32, FieldFault> {
-        let number = reader.read_u64_within(0, MOST_USE as u64)?;
-        Ok(number as u32)
-    }
-
-    fn write(value: &u32, into: &mut [u8], at: usize) -> usize {
-        put_u64(into, at, *value as u64)
-    }
-}
-
-fn read_row_count(reader: &mut Reader<'_>) -> Result<u32, Flaw>
-    ensures { Shows result reader.new (row_count.read reader.old) }
-{
-    let number = reader.read_u64_within(1, MOST_ROWS as u64)?;
-    Ok(number as u32)
 }
 
 #[tactic(auto, unfolding(record_fields::specs::Formats::known_at))]
@@ -148,7 +63,7 @@ pub fn read_filter(alloc: Global, reader: &mut Reader<'_>) -> Result<Filter, Fie
     let min_size = read_optional::<LengthField>(alloc, reader, false)?;
     let days = read_optional::<DaysField>(alloc, reader, false)?;
     let min_use = read_optional::<LeastUseField>(alloc, reader, false)?;
-    let max = read_row_count(reader)?;
+    let max = RowCountField::read(alloc, reader)?;
     Ok(Filter {
         owner,
         pattern,

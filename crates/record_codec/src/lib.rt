@@ -37,14 +37,13 @@ pub use encoding::encode;
 pub use entry::EntryRef;
 pub use exceptions::ExceptionKind;
 pub use fault::CodecFault;
-pub use fields::{
-    ActionTextField, LimitField, NameField, ObjectNameField, PatternField, PercentField,
-};
+pub use fields::{ActionTextField, NameField, ObjectNameField, PatternField};
 pub use filegroups::FilegroupKind;
 pub use files::FileKind;
 pub use filters::ReportKindField;
 pub use kinds::Kind;
 pub use notices::ActionKindField;
+pub use numbers::{LimitField, PercentField};
 pub use quotas::QuotaKind;
 pub use reports::JobKind;
 pub use screens::ScreenKind;

@@ -7,7 +7,8 @@ ghost use Rattle.record_codec.specs.Fields.{action_kind, minutes as minutes_form
 ghost use Rattle.record_codec.specs.Notices.{new_thresholds};
 ghost use Rattle.record_codec.specs.Typed.{all_typed, action_typed, notice_typed};
 
-use crate::fields::{ActionTextField, PercentField};
+use crate::fields::ActionTextField;
+use crate::numbers::PercentField;
 use crate::typed::{OwnText, Typed, put_all};
 use fsrm_model::limits::MOST_MINUTES;
 use fsrm_model::{Action, ActionKind, Added, NewThresholds};
@@ -38,7 +39,7 @@ impl Field for ActionField {
     }
 
     fn write(value: &Action, into: &mut [u8], at: usize) -> usize {
-        put_action(value, into, at)
+        ActionField::put(value, into, at)
     }
 }
 
@@ -50,7 +51,9 @@ impl Typed for ActionField {
     ghost typed = { action_typed };
 
     fn put(value: &Action, into: &mut [u8], at: usize) -> usize {
-        put_action(value, into, at)
+        let kind_end = ActionKindField::write(&value.kind, into, at);
+        let minutes_end = put_minutes(&value.minutes, into, kind_end);
+        OwnText::put(&value.text, into, minutes_end)
     }
 }
 
@@ -70,7 +73,7 @@ impl Field for NoticeField {
     }
 
     fn write(value: &Added, into: &mut [u8], at: usize) -> usize {
-        put_notice(value, into, at)
+        NoticeField::put(value, into, at)
     }
 }
 
@@ -82,27 +85,9 @@ impl Typed for NoticeField {
     ghost typed = { notice_typed };
 
     fn put(value: &Added, into: &mut [u8], at: usize) -> usize {
-        put_notice(value, into, at)
+        let percent_end = PercentField::write(&value.percent, into, at);
+        ActionField::put(&value.action, into, percent_end)
     }
-}
-
-fn put_notice(notice: &Added, into: &mut [u8], at: usize) -> usize
-    requires { at ≤ length into.old }
-    ensures written { Writes into.old at into.new result (notice_format.spell notice.now) }
-    ensures typed { notice_typed notice.now ≡ true }
-{
-    let after = put_u64(into, at, notice.percent as u64);
-    put_action(&notice.action, into, after)
-}
-
-fn put_action(action: &Action, into: &mut [u8], at: usize) -> usize
-    requires { at ≤ length into.old }
-    ensures written { Writes into.old at into.new result (action_format.spell action.now) }
-    ensures typed { action_typed action.now ≡ true }
-{
-    let kind_end = put_action_kind(action.kind, into, at);
-    let minutes_end = put_minutes(&action.minutes, into, kind_end);
-    OwnText::put(&action.text, into, minutes_end)
 }
 
 /// Reads the thresholds that a quota or a template gets.
@@ -149,21 +134,14 @@ impl Field for ActionKindField {
     }
 
     fn write(value: &ActionKind, into: &mut [u8], at: usize) -> usize {
-        put_action_kind(*value, into, at)
+        let code = match *value {
+            ActionKind::Event => 1,
+            ActionKind::Mail => 2,
+            ActionKind::Program => 3,
+            ActionKind::Report => 4,
+        };
+        put_u8(into, at, code)
     }
-}
-
-fn put_action_kind(kind: ActionKind, into: &mut [u8], at: usize) -> usize
-    requires { at ≤ length into.old }
-    ensures { Writes into.old at into.new result (action_kind.spell kind) }
-{
-    let code = match kind {
-        ActionKind::Event => 1,
-        ActionKind::Mail => 2,
-        ActionKind::Program => 3,
-        ActionKind::Report => 4,
-    };
-    put_u8(into, at, code)
 }
 
 // -1 minute.

@@ -5,8 +5,9 @@ ghost use Rattle.record_fields.specs.Readers.{Gives};
 ghost use Rattle.record_fields.specs.Writers.{Writes};
 ghost use Rattle.record_codec.specs.Quotas.{quota_kind, quota_deed, quota_spelled, quota_typed, new_quota, new_quota_typed, quota_change, quota_change_typed};
 
-use crate::fields::{LimitField, ObjectNameField, PercentField};
+use crate::fields::ObjectNameField;
 use crate::notices::{put_new_thresholds, read_new_thresholds};
+use crate::numbers::{LimitField, PercentField};
 use crate::paths::{PathField, put_on_path, put_path};
 use crate::typed::{OwnText, put_some};
 use fsrm_model::{NewQuota, QuotaChange, QuotaDeed};
@@ -124,7 +125,8 @@ pub fn put_quota_deed(deed: &QuotaDeed, into: &mut [u8], at: usize) -> usize
         QuotaDeed::Delete { path } => put_on_path(12, path, into, at),
         QuotaDeed::Scan { path } => put_on_path(13, path, into, at),
         QuotaDeed::Resetpeak { path } => put_on_path(14, path, into, at),
-        QuotaDeed::List { .. } => at,
+        // No journal keeps another.
+        _ => at,
     }
 }
 

@@ -92,8 +92,8 @@ pub fn put_job_deed(deed: &ReportsDeed, into: &mut [u8], at: usize) -> usize
             let after = put_u8(into, at, 72);
             OwnText::put(name, into, after)
         }
-        ReportsDeed::Generate(_) => at,
-        ReportsDeed::List => at,
+        // No journal keeps another.
+        _ => at,
     }
 }
 

@@ -104,7 +104,8 @@ pub fn put_screen_deed(deed: &ScreenDeed, into: &mut [u8], at: usize) -> usize
             put_screen_change(change, into, after)
         }
         ScreenDeed::Delete { path } => put_on_path(52, path, into, at),
-        ScreenDeed::List => at,
+        // No journal keeps another.
+        _ => at,
     }
 }
 

@@ -52,7 +52,7 @@ pub fn put_setting(deed: &AdminDeed, into: &mut [u8], at: usize) -> usize
             let after = put_u8(into, at, 35);
             put_u64(into, after, *run_limit as u64)
         }
-        AdminDeed::List => at,
-        AdminDeed::Log => at,
+        // No journal keeps another.
+        _ => at,
     }
 }

@@ -5,8 +5,9 @@ ghost use Rattle.record_fields.specs.Readers.{Gives, Shows};
 ghost use Rattle.record_fields.specs.Writers.{Writes};
 ghost use Rattle.record_codec.specs.Templates.{template_kind, template_deed, template_spelled, template_typed, new_template, new_template_typed, template_change, template_change_typed, update as update_format};
 
-use crate::fields::{LimitField, ObjectNameField, PercentField};
+use crate::fields::ObjectNameField;
 use crate::notices::{put_new_thresholds, read_new_thresholds};
+use crate::numbers::{LimitField, PercentField};
 use crate::typed::{OwnText, Typed};
 use fsrm_model::{NewTemplate, TemplateChange, TemplateDeed, Update};
 use record_fields::{
@@ -126,7 +127,8 @@ pub fn put_template_deed(deed: &TemplateDeed, into: &mut [u8], at: usize) -> usi
             let after = put_u8(into, at, 22);
             OwnText::put(name, into, after)
         }
-        TemplateDeed::List => at,
+        // No journal keeps another.
+        _ => at,
     }
 }
 

@@ -1,8 +1,5 @@
-use Rattle.record_fields.proofs.WriterLaws.{writes_then, writes_nothing}
+use Rattle.record_fields.proofs.WriterLaws.{writes_then}
 use Rattle.record_codec.proofs.exceptions.put_exception_deed.Goals as goal
 
 pub returns-in-Add-clause-written : goal.returns-in-Add-clause-written
 returns-in-Add-clause-written c = rw c.in-Add.is (writes_then c.put_u8-after.ensures c.put_new_exception.ensures.written)
-
-pub returns-in-List-clause-written : goal.returns-in-List-clause-written
-returns-in-List-clause-written c = rw c.in-List.is (writes_nothing c.requires)

@@ -1,4 +1,4 @@
-use Rattle.record_fields.proofs.WriterLaws.{writes_then, writes_nothing}
+use Rattle.record_fields.proofs.WriterLaws.{writes_then}
 use Rattle.record_codec.proofs.filegroups.put_filegroup_deed.Goals as goal
 
 pub returns-in-Add-clause-written : goal.returns-in-Add-clause-written
@@ -9,6 +9,3 @@ returns-in-Modify-clause-written c = rw c.in-Modify.is (writes_then c.put_u8-aft
 
 pub returns-in-Delete-clause-written : goal.returns-in-Delete-clause-written
 returns-in-Delete-clause-written c = rw c.in-Delete.is (writes_then c.put_u8-after-in-Delete.ensures c.put.ensures.written)
-
-pub returns-in-List-clause-written : goal.returns-in-List-clause-written
-returns-in-List-clause-written c = rw c.in-List.is (writes_nothing c.requires)

@@ -1,4 +1,4 @@
-use Rattle.record_fields.proofs.WriterLaws.{writes_then, writes_nothing}
+use Rattle.record_fields.proofs.WriterLaws.{writes_then}
 use Rattle.record_codec.proofs.quotas.put_quota_deed.Goals as goal
 
 pub returns-in-Add-clause-written : goal.returns-in-Add-clause-written
@@ -6,6 +6,3 @@ returns-in-Add-clause-written c = rw c.in-Add.is (writes_then c.put_u8-after.ens
 
 pub returns-in-Modify-clause-written : goal.returns-in-Modify-clause-written
 returns-in-Modify-clause-written c = rw c.in-Modify.is (writes_then c.put_u8-after-in-Modify.ensures c.put_change.ensures.written)
-
-pub returns-in-List-clause-written : goal.returns-in-List-clause-written
-returns-in-List-clause-written c = rw c.in-List.is (writes_nothing c.requires)

@@ -1,4 +1,4 @@
-use Rattle.record_fields.proofs.WriterLaws.{writes_then, writes_nothing}
+use Rattle.record_fields.proofs.WriterLaws.{writes_then}
 use Rattle.record_codec.proofs.reports.put_job_deed.Goals as goal
 
 pub returns-in-Add-clause-written : goal.returns-in-Add-clause-written
@@ -9,9 +9,3 @@ returns-in-Delete-clause-written c = rw c.in-Delete.is (writes_then c.put_u8-aft
 
 pub returns-in-Run-clause-written : goal.returns-in-Run-clause-written
 returns-in-Run-clause-written c = rw c.in-Run.is (writes_then c.put_u8-after-in-Run.ensures c.put-in-Run.ensures.written)
-
-pub returns-in-Generate-clause-written : goal.returns-in-Generate-clause-written
-returns-in-Generate-clause-written c = rw c.in-Generate.is (writes_nothing c.requires)
-
-pub returns-in-List-clause-written : goal.returns-in-List-clause-written
-returns-in-List-clause-written c = rw c.in-List.is (writes_nothing c.requires)
