@@ -1,7 +1,6 @@
 pub mod operations
 pub mod steps
 pub mod tables
-pub mod walks
 pub mod coming
 pub mod settling
 pub mod judging

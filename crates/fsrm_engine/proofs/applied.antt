@@ -1,5 +1,3 @@
-pub mod SortedNumbers
-pub mod EligibleFolders
 pub mod ComingRows
 pub mod ReceiveLaws
 pub mod DerivedLaws

@@ -1,4 +1,3 @@
-pub mod OrderlyQuotas
 pub mod OrderedActs
 pub mod MarkLaws
 pub mod EndLaws
@@ -8,11 +7,7 @@ pub mod ChangedDue
 pub mod RefuseLaws
 pub mod PlaceLaws
 pub mod GainLaws
-pub mod NoteLaws
 pub mod ChargeLaws
-pub mod ClimbNotes
-pub mod SettledLaws
 pub mod UpdatedDue
-pub mod LimitLaws
 pub mod TurnedCalm
 pub mod ActTexts

@@ -1,7 +1,6 @@
 pub mod StepLaws
 pub mod WholeLaws
 pub mod ActLaws
-pub mod PlaceLaws
 pub mod ScanSteps
 pub mod FinishLaws
 pub mod FlaggedParts

@@ -1,16 +1,12 @@
 pub mod QuotaLaws
 pub mod CountingLaws
 pub mod PeakLaws
-pub mod RaiseLaws
 pub mod RanLaws
-pub mod SumLaws
 pub mod StateLaws
 pub mod TurnLaws
 pub mod QueueLaws
 pub mod RoomLaws
 pub mod ModifyLaws
-pub mod ListLaws
-pub mod GroupListLaws
 pub mod GroupLaws
 pub mod PatternLaws
 pub mod ScreenLaws
@@ -19,4 +15,3 @@ pub mod SourceLaws
 pub mod TemplateLaws
 pub mod UpdateLaws
 pub mod FlagLaws
-pub mod BeginLaws

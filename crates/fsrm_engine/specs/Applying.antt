@@ -1,27 +1,25 @@
 -- Quotas that come to folders by auto-apply.
-use Rattle.std.specs.Prelude.{◌≡◌, ℕ, ◌+◌, ◌*◌, ◌≤◌, ◌&&◌, nat_le, nat_lt, not, Bool, true, List, [], ◌∷◌, filter, is_none, length, map, Option, Some, None}
+use Rattle.std.specs.Prelude.{◌≡◌, ℕ, ◌+◌, ◌*◌, ◌≤◌, ◌&&◌, nat_le, nat_lt, not, true, List, [], ◌∷◌, length, Option, Some, None}
 use Rattle.std.specs.List.{AllByRecursion, list_all}
 use Rattle.std.specs.Option.{option_map_or}
-use Rattle.fsrm_base.specs.Keyed.{has_row, is_ascending, row_of}
+use Rattle.fsrm_base.specs.Keyed.{has_row, is_ascending}
 use Rattle.fsrm_model.specs.declared.command.Refusal.{Refusal}
 use Rattle.fsrm_model.specs.declared.command.Refusal.TheVariants.{TableFull, TextsFull}
 use Rattle.fsrm_model.specs.declared.row.AutoRow.{AutoRow}
-use Rattle.fsrm_model.specs.declared.row.NodeRow.{NodeRow}
 use Rattle.fsrm_model.specs.declared.row.QuotaRow.{QuotaRow}
 use Rattle.fsrm_model.specs.declared.row.TemplateRow.{TemplateRow}
-use Rattle.fsrm_model.specs.objects.AutoApply.{excludes, subfolders}
 use Rattle.fsrm_model.specs.commands.Check.{◌when◌, first}
 use Rattle.fsrm_model.specs.values.Limits.{most_autos, most_quotas}
 use Rattle.fsrm_model.specs.objects.Quota.{folder_of, counts, is_limit}
-use Rattle.fsrm_model.specs.objects.QuotaStates.{start}
-use Rattle.fsrm_model.specs.objects.Templates.{template_of, derived}
+use Rattle.fsrm_model.specs.objects.Templates.{template_of}
 use Rattle.fsrm_model.specs.values.Texts.{auto_bytes, threshold_bytes}
 use Rattle.fsrm_model.specs.objects.Thresholds.{are_thresholds}
-use Rattle.fsrm_model.specs.nodes.Tree.{is_folder, name_of, usage}
+use Rattle.fsrm_model.specs.nodes.Tree.{is_folder, usage}
 use Rattle.fsrm_model.specs.store.Valid.{is_moment}
 use Rattle.fsrm_objects.specs.Tables.{quota_texts}
 use Rattle.fsrm_engine.specs.declared.parts.Parts.{Parts}
 use Rattle.fsrm_engine.specs.Faults.{text_room}
+use Rattle.fsrm_parts.specs.Applying.{derived_rows, given_folders}
 
 -- quotas that come to folders that have none: legal, in the order of their folders, and those that count use nothing yet
 pub record AreComing (parts : Parts) (rows : List QuotaRow) : Type 0 where
@@ -33,11 +31,6 @@ pub record AreComing (parts : Parts) (rows : List QuotaRow) : Type 0 where
   pub few : length parts.objects.quotas + length rows ≤ most_quotas
   pub short : quota_texts rows ≤ text_room parts
 
--- ---- quotas of a template
--- on folders, at a moment
-abbrev pub derived_rows : List NodeRow → TemplateRow → ℕ → List ℕ → List QuotaRow
-derived_rows nodes template moment folders = map (λ folder. derived template folder (start nodes folder) moment) folders
-
 -- the bytes of the texts of one
 abbrev pub derived_bytes : List TemplateRow → ℕ → ℕ
 derived_bytes templates template =
@@ -48,15 +41,6 @@ abbrev pub quotas_full : Parts → ℕ → ℕ → ℕ → Option Refusal
 quotas_full parts template count room =
     first ((TableFull when nat_lt most_quotas (length parts.objects.quotas + count))
     ∷ (TextsFull when nat_lt room (count * derived_bytes parts.templates.templates template)) ∷ [])
-
--- ---- a new auto-apply quota
--- whether it gives a folder in its own one a quota
-abbrev pub gets_one : List NodeRow → List QuotaRow → AutoRow → ℕ → Bool
-gets_one nodes quotas auto folder = not (excludes auto (name_of nodes folder)) && is_none (row_of folder_of folder quotas)
-
--- the folders to which it gives one
-abbrev pub given_folders : List NodeRow → List QuotaRow → AutoRow → List ℕ
-given_folders nodes quotas auto = filter (gets_one nodes quotas auto) (subfolders nodes auto.folder)
 
 -- why it can't come, if it gives so many quotas
 abbrev pub apply_refusal : Parts → AutoRow → ℕ → Option Refusal

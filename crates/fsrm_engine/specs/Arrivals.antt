@@ -1,16 +1,13 @@
 -- The quota that a folder gets when it is made or moved: one of a template, if the folder that it stands in then has an
 -- auto-apply quota.
-use Rattle.std.specs.Prelude.{ℕ, Bool, true, List, Option, None, is_some, fold, option_map, option_to_list, if◌then◌else◌}
+use Rattle.std.specs.Prelude.{ℕ, true, List, Option, fold, option_map, option_to_list}
 use Rattle.std.specs.Option.{option_and_then}
-use Rattle.fsrm_base.specs.Keyed.{row_of}
 use Rattle.fsrm_model.specs.declared.command.Refusal.{Refusal}
-use Rattle.fsrm_model.specs.declared.row.AutoRow.{AutoRow}
 use Rattle.fsrm_model.specs.declared.row.QuotaRow.{QuotaRow}
 use Rattle.fsrm_model.specs.declared.row.QuotaState.{QuotaState}
 use Rattle.fsrm_model.specs.declared.row.TemplateRow.{TemplateRow}
-use Rattle.fsrm_model.specs.objects.AutoApply.{queue_with, quotas_with, template_for}
+use Rattle.fsrm_model.specs.objects.AutoApply.{queue_with, quotas_with}
 use Rattle.fsrm_model.specs.nodes.FileOps.{made_node}
-use Rattle.fsrm_model.specs.objects.Quota.{folder_of}
 use Rattle.fsrm_model.specs.objects.Templates.{template_of, derived}
 use Rattle.volume_tree.specs.Volume.{with_node}
 use Rattle.fsrm_engine.specs.declared.parts.Parts.{Parts}
@@ -22,11 +19,6 @@ use Rattle.fsrm_engine.specs.Machine.{Turned, recounted}
 abbrev pub from_source : List TemplateRow → ℕ → QuotaState → ℕ → Option ℕ → Option QuotaRow
 from_source templates folder state moment source =
     option_map (λ template. derived template folder state moment) (option_and_then (template_of templates) source)
-
--- The template of which a node gets a quota that moves to a place. A file gets none, and a folder that has one no other
-abbrev pub moved_source : List QuotaRow → List AutoRow → ℕ → Bool → ℕ → List ℕ → Option ℕ
-moved_source quotas autos node moves_folder folder name =
-    if moves_folder then (if is_some (row_of folder_of node quotas) then None else template_for autos folder name) else None
 
 -- why the quota can't come
 abbrev pub source_fault : Parts → Option ℕ → Option Refusal

@@ -1,33 +1,24 @@
 -- The acts that commands make due, as the engine finds them, and what is left when they ran.
-use Rattle.std.specs.Prelude.{◌≡◌, ℕ, ◌≤◌, ◌==◌, ◌&&◌, not, Bool, true, false, List, [], ◌∷◌, map, Some, None}
-use Rattle.std.specs.Option.{option_map_or}
+use Rattle.std.specs.Prelude.{◌≡◌, ℕ, ◌≤◌, true, List, [], ◌∷◌, map, Some, None}
 use Rattle.fsrm_base.specs.Keyed.{with_change}
 use Rattle.fsrm_model.specs.declared.command.Act.{Act}
 use Rattle.fsrm_model.specs.declared.command.Answer.{Answer}
 use Rattle.fsrm_model.specs.declared.command.Outcome.TheVariants.{Refused}
-use Rattle.fsrm_model.specs.declared.row.NodeRow.{NodeRow}
 use Rattle.fsrm_model.specs.declared.row.QuotaRow.{QuotaRow}
 use Rattle.fsrm_model.specs.declared.row.QuotaState.TheVariants.{Complete}
 use Rattle.fsrm_model.specs.values.Limits.{latest_moment}
 use Rattle.fsrm_model.specs.objects.Quota.{folder_of, peaked}
 use Rattle.fsrm_model.specs.objects.QuotaStates.{in_state, queued}
-use Rattle.fsrm_model.specs.nodes.Tree.{is_under}
-use Rattle.fsrm_objects.specs.Tables.{Tables}
 use Rattle.quota_usage.specs.declared.change.Change.{Change}
-use Rattle.quota_usage.specs.declared.change.Counter.{Counter}
 use Rattle.quota_usage.specs.declared.change.Exceeded.{Exceeded}
 use Rattle.quota_usage.specs.Counters.{used_in}
 use Rattle.rescan.specs.Courses.{Course, Turns}
 use Rattle.thresholds.specs.Settled.{due_in}
 use Rattle.fsrm_engine.specs.declared.parts.Parts.{Parts}
-use Rattle.fsrm_engine.specs.Crossing.{counted_acts}
-use Rattle.fsrm_engine.specs.Faults.{exceeded_refusal, refused_answer}
+use Rattle.fsrm_parts.specs.Crossing.{counted_acts}
+use Rattle.fsrm_parts.specs.Faults.{exceeded_refusal, refused_answer}
 use Rattle.fsrm_engine.specs.Machine.{charged_parts, ended, recounted, AreCounted, IsIdle, IsSound, Ran}
-use Rattle.fsrm_engine.specs.Peaks.{raised}
-
--- whether a folder lost what a change gave it: it is at or above another folder from which bytes were taken
-abbrev pub is_kept : List NodeRow → Change → ℕ → QuotaRow → Bool
-is_kept nodes change to quota = option_map_or (λ from. not (from == to) && is_under nodes quota.folder from) change.from false
+use Rattle.fsrm_parts.specs.Peaks.{raised}
 
 -- the acts that are due after a change of the counters, of quotas whose peaks were raised
 abbrev pub charged_acts : Parts → Change → ℕ → List Act
@@ -39,11 +30,6 @@ charged_acts parts change moment =
 abbrev pub refused_acts : Parts → Exceeded → ℕ → List Act
 refused_acts parts exceeded moment =
     due_in parts.objects None (used_in parts.usage exceeded.folder) (Some exceeded.would) parts.run_limit moment exceeded.folder
-
--- the acts that are due of a quota that had this row before a template's change. What it uses stayed
-abbrev pub updated_acts : Tables → List Counter → ℕ → ℕ → QuotaRow → List Act
-updated_acts tables counters run_limit moment row =
-    due_in tables (Some row) (used_in counters row.folder) (used_in counters row.folder) run_limit moment row.folder
 
 -- actions may come to run at this moment: the counters are the sums, no action waits, and the moment is in range
 pub record MaySettle (parts : Parts) (moment : ℕ) : Type 0 where

@@ -1,5 +1,5 @@
 -- An engine's parts, and how the plain machine sees them.
-use Rattle.std.specs.Prelude.{◌≡◌, ℕ, ◌≤◌, Bool, true, false, List, [], map, filter, Some}
+use Rattle.std.specs.Prelude.{◌≡◌, ℕ, ◌≤◌, Bool, true, false, List, [], map, Some}
 use Rattle.fsrm_model.specs.declared.command.Act.{Act}
 use Rattle.fsrm_model.specs.declared.command.Answer.{Answer}
 use Rattle.fsrm_model.specs.declared.command.Deed.{Deed}
@@ -27,7 +27,8 @@ use Rattle.thresholds.specs.Marked.{waiting, are_there, all_waiting, screen_wait
 use Rattle.thresholds.specs.Settled.{Settles}
 use Rattle.volume_tree.specs.Volume.{Volume}
 use Rattle.fsrm_engine.specs.declared.parts.Parts.{Parts}
-use Rattle.fsrm_engine.specs.Peaks.{raised_above}
+use Rattle.fsrm_parts.specs.Peaks.{raised_above}
+use Rattle.fsrm_parts.specs.Sums.{sums_of}
 
 -- how much it may hold, its rows, and the acts that wait to be handed out
 pub record Machine : Type 0 where
@@ -84,15 +85,6 @@ bare tree scans =
       last_moment = 0;
       level = false;
     }
-
--- ---- what is known of the parts
--- what the files at and below a quota's folder take
-abbrev pub counter_of : Capacity → List NodeRow → QuotaRow → Counter
-counter_of K nodes quota = record { folder = quota.folder; bytes = usage K nodes quota.folder }
-
--- the same of each counting quota
-abbrev pub sums_of : Capacity → List NodeRow → List QuotaRow → List Counter
-sums_of K nodes quotas = map (counter_of K nodes) (filter counts quotas)
 
 -- the counters of these quotas are the sums over the tree, and if it is level no peak is below what is used
 pub record IsCounted (size : Capacity) (nodes : List NodeRow) (quotas : List QuotaRow) (counters : List Counter) (level : Bool) : Type 0 where

@@ -1,9 +1,6 @@
 -- A node that moves, and what is known of it before it does.
-use Rattle.std.specs.Prelude.{◌≡◌, ℕ, ◌==◌, ◌≤◌, ◌||◌, nat_lt, true, false, length, List, IfSome, Option, Some, None, is_some, option_map, if◌then◌else◌}
-use Rattle.fsrm_base.specs.Keyed.{has_row}
-use Rattle.fsrm_model.specs.declared.row.QuotaRow.{QuotaRow}
+use Rattle.std.specs.Prelude.{◌≡◌, ℕ, ◌==◌, false, List, Option, Some, None, option_map, if◌then◌else◌}
 use Rattle.fsrm_model.specs.objects.Screens.{judging}
-use Rattle.fsrm_model.specs.objects.Templates.{template_number}
 use Rattle.fsrm_model.specs.nodes.Tree.{is_folder, owner_of, parent_of, resolve, usage}
 use Rattle.volume_tree.specs.Volume.{Volume, move_fault}
 use Rattle.file_screens.specs.declared.answer.Blocked.{Blocked}
@@ -11,12 +8,12 @@ use Rattle.file_screens.specs.Blocked.{told}
 use Rattle.file_screens.specs.Way.{is_active}
 use Rattle.quota_usage.specs.declared.change.Change.{Change}
 use Rattle.quota_usage.specs.Charge.{exceeded_by}
-use Rattle.templates.specs.Held.{Held}
-use Rattle.fsrm_engine.specs.declared.moves.Moving.{Moving}
+use Rattle.fsrm_parts.specs.declared.moves.Moving.{Moving}
 use Rattle.fsrm_engine.specs.declared.parts.Parts.{Parts}
 use Rattle.fsrm_engine.specs.Machine.{rows_of}
-use Rattle.fsrm_engine.specs.Places.{IsPlace}
-use Rattle.fsrm_engine.specs.Arrivals.{moved_source, source_fault}
+use Rattle.fsrm_parts.specs.Places.{IsPlace}
+use Rattle.fsrm_engine.specs.Arrivals.{source_fault}
+use Rattle.fsrm_parts.specs.Moves.{AreMoved, IsSourceOfMove}
 
 -- paths name what moves and where it goes, and the tree has nothing against it
 pub record IsMove (v : Volume) (from to : List (List ℕ)) (m : Moving) : Type 0 where
@@ -28,20 +25,10 @@ pub record IsMove (v : Volume) (from to : List (List ℕ)) (m : Moving) : Type 0
   pub owner : owner_of v.nodes m.node ≡ m.owner
   pub kind : is_folder v.nodes m.node ≡ m.folder
 
--- the template of which it gets a quota, which is there
-pub record IsSourceOfMove (quotas : List QuotaRow) (held : Held) (m : Moving) (source : Option ℕ) : Type 0 where
-  pub is : source ≡ moved_source quotas held.autos m.node m.folder m.place.folder m.place.name.now
-  pub there : IfSome source (λ template. has_row template_number template held.templates ≡ true)
-
 -- the screen that judges its new name
 abbrev pub judged_move : Parts → Moving → Option Blocked
 judged_move parts m =
     if m.folder then None else option_map told (judging (rows_of parts) m.place.folder m.place.name.now)
-
--- the bytes that move. If there is no quota, and none comes, they may be any number up to the node's usage
-pub record AreMoved (parts : Parts) (node : ℕ) (source : Option ℕ) (bytes : ℕ) : Type 0 where
-  pub few : bytes ≤ usage parts.tree.size parts.tree.nodes node
-  pub all : (is_some source || nat_lt 0 (length parts.objects.quotas)) ≡ true → bytes ≡ usage parts.tree.size parts.tree.nodes node
 
 -- what is taken from the folders above the old place, and given to those above the new one
 abbrev pub change_of : Moving → ℕ → Change
@@ -54,5 +41,5 @@ pub record MayMove (parts : Parts) (from to : List (List ℕ)) (m : Moving) (sou
   pub may_come : source_fault parts source ≡ None
   pub judged_is : judged ≡ judged_move parts m
   pub passive : is_active judged ≡ false
-  pub moved : AreMoved parts m.node source bytes
+  pub moved : AreMoved parts.tree.size parts.tree.nodes parts.objects.quotas m.node source bytes
   pub admitted : exceeded_by parts.tree.nodes parts.objects.quotas parts.usage (change_of m bytes) ≡ None

@@ -1,29 +1,19 @@
 -- Rows of which an engine is made, and what is told on the way.
-use Rattle.std.specs.Prelude.{◌&&◌, nat_le, Bool, []}
+use Rattle.std.specs.Prelude.{◌&&◌, Bool, []}
 use Rattle.fsrm_model.specs.declared.row.Capacity.{Capacity}
 use Rattle.fsrm_model.specs.declared.row.Rows.{Rows}
-use Rattle.fsrm_model.specs.objects.Jobs.{job_name}
-use Rattle.fsrm_model.specs.objects.Templates.{template_name}
 use Rattle.fsrm_model.specs.store.Replays.{none_rebuilding}
 use Rattle.fsrm_model.specs.store.Valid.{is_valid}
-use Rattle.fsrm_model.specs.values.Limits.{most_text_bytes}
-use Rattle.fsrm_model.specs.values.Name.{names_differ}
-use Rattle.fsrm_model.specs.values.Patterns.{are_apart}
-use Rattle.fsrm_model.specs.values.Texts.{object_texts}
 use Rattle.rescan.specs.Courses.{Course}
 use Rattle.rescan.specs.Frontiers.{idle}
 use Rattle.volume_tree.specs.Volume.{Volume}
 use Rattle.fsrm_engine.specs.declared.parts.Parts.{Parts}
-use Rattle.fsrm_engine.specs.Machine.{bare, sums_of}
+use Rattle.fsrm_engine.specs.Machine.{bare}
+use Rattle.fsrm_parts.specs.Sums.{sums_of}
 
 -- the rows of a store of this size in which no scan waits
 abbrev pub is_restorable : Capacity → Rows → Bool
 is_restorable K R = is_valid K R && none_rebuilding R.quotas
-
--- what the tables judge when they are filled: that names differ, and that all texts fit
-abbrev pub are_fitting : Rows → Bool
-are_fitting R =
-    (are_apart R.groups && (names_differ template_name R.templates && names_differ job_name R.jobs)) && nat_le (object_texts R) most_text_bytes
 
 -- parts with the objects of these rows
 abbrev pub with_objects : Parts → Rows → Parts

@@ -1,13 +1,12 @@
 //! The commands on the settings and on the log of actions.
 
-ghost use Rattle.std.specs.Prelude.{◌≡◌};
 ghost use Rattle.fsrm_model.specs.declared.command.AdminDeed.TheVariants.{Options as AdminOptions, List as AdminList, Log as AdminLog};
 ghost use Rattle.fsrm_model.specs.declared.command.Deed.TheVariants.{Admin};
 ghost use Rattle.fsrm_engine.specs.Machine.{Does, IsReady, IsSound};
 
-use crate::exits::listing;
 use crate::parts::Parts;
 use fsrm_model::{AdminDeed, Answer, Ask};
+use fsrm_parts::listing;
 
 impl Parts {
     // Sets how many minutes pass at least between two runs of an action that has none of its own.

@@ -1,7 +1,7 @@
 //! The quota that a folder gets when it is made or moved, if the folder that it then stands in has an auto-apply quota:
 //! one of that one's template.
 
-ghost use Rattle.std.specs.Prelude.{◌≡◌, ◌+◌, ◌*◌, ◌≤◌, ◌==◌, true, false, length, is_some, IfErr, IfOk, IfSome, OnErr, OnOk, Some, None};
+ghost use Rattle.std.specs.Prelude.{◌≡◌, ◌+◌, ◌≤◌, true, false, is_some, IfErr, IfOk, IfSome, OnErr, OnOk, Some, None};
 ghost use Rattle.fsrm_base.specs.Keyed.{has_row};
 ghost use Rattle.fsrm_model.specs.declared.row.QuotaState.TheVariants.{Complete};
 ghost use Rattle.fsrm_model.specs.values.Name.{is_name};
@@ -14,10 +14,9 @@ ghost use Rattle.volume_tree.specs.Volume.{new_fault};
 ghost use Rattle.fsrm_engine.specs.Machine.{AreCounted, IsReady, IsSound, rows_of};
 ghost use Rattle.fsrm_engine.specs.Arrivals.{Receives, from_source, source_fault, with_folder};
 
-use crate::applying::derived_row;
 use crate::parts::Parts;
-use crate::places::Place;
 use fsrm_model::{Ledger, NoMemory, QuotaState, Refusal, Steps};
+use fsrm_parts::{Place, derived_row};
 use std::alloc::Global;
 use volume_tree::Finger;
 

@@ -1,6 +1,6 @@
 //! The commands on auto-apply quotas.
 
-ghost use Rattle.std.specs.Prelude.{◌≡◌, ◌+◌, ◌*◌, ◌≤◌, ◌&&◌, ◌++◌, true, false, length, filter, fold, IfErr, IfOk, MatchResult, OnOk, OnErr, Some, None};
+ghost use Rattle.std.specs.Prelude.{◌≡◌, ◌+◌, ◌*◌, ◌≤◌, true, false, length, fold, IfErr, IfOk, MatchResult, OnOk, OnErr, Some, None};
 ghost use Rattle.fsrm_base.specs.Keyed.{has_row};
 ghost use Rattle.fsrm_model.specs.declared.command.AutoquotaDeed.TheVariants.{Add as AutoquotaAdd, Delete as AutoquotaDelete, List as AutoquotaList};
 ghost use Rattle.fsrm_model.specs.declared.command.Deed.TheVariants.{Autoquota};
@@ -9,122 +9,25 @@ ghost use Rattle.fsrm_model.specs.commands.AutoWork.{new_auto};
 ghost use Rattle.fsrm_model.specs.commands.Commands.{is_new_autoquota};
 ghost use Rattle.fsrm_model.specs.commands.Cost.{deed_cost};
 ghost use Rattle.fsrm_model.specs.objects.Templates.{template_number};
-ghost use Rattle.fsrm_model.specs.nodes.Tree.{number, children, is_folder};
-ghost use Rattle.fsrm_model.specs.store.Valid.{IsValid, IsVolume};
+ghost use Rattle.fsrm_model.specs.nodes.Tree.{children};
+ghost use Rattle.fsrm_model.specs.store.Valid.{IsValid};
 ghost use Rattle.fsrm_model.specs.store.ValidScans.{IsQueue};
 ghost use Rattle.fsrm_model.specs.store.Valued.{is_deed};
 ghost use Rattle.templates.specs.Held.{with_auto};
-ghost use Rattle.fsrm_engine.specs.Applying.{AreComing, IsGiven, apply_refusal, gets_one, given_folders};
+ghost use Rattle.fsrm_engine.specs.Applying.{AreComing, IsGiven, apply_refusal};
+ghost use Rattle.fsrm_parts.specs.Applying.{given_folders};
 ghost use Rattle.fsrm_engine.specs.Machine.{Does, IsReady, IsSound, Turned, rows_of};
 ghost use Rattle.fsrm_engine.specs.Memory.{may_want_memory};
-ghost use Rattle.fsrm_engine.specs.Walk.{AreThere};
 
-use crate::applying::derived_rows;
-use crate::exits::{listing, refused};
 use crate::parts::Parts;
-use crate::places::folder_at;
 use fsrm_base::room::left_of_texts;
 use fsrm_model::limits::MOST_AUTOS;
 use fsrm_model::{
-    Answer, Ask, AutoRow, AutoquotaDeed, Duplicate, Ledger, List, NewAutoquota, NoMemory, Path,
-    QuotaRow, Refusal, Steps, Text,
+    Answer, Ask, AutoRow, AutoquotaDeed, Ledger, List, NewAutoquota, NoMemory, Path, QuotaRow,
+    Refusal, Steps,
 };
-use fsrm_objects::Objects;
+use fsrm_parts::{derived_rows, folder_at, given_folders, listing, new_auto, refused};
 use std::alloc::Global;
-use templates::excludes;
-use volume_tree::{Children, Finger, Siblings, Tree};
-
-// A new auto-apply quota, with copies of the names that it excludes.
-fn new_auto(
-    alloc: Global,
-    folder: u32,
-    template: u32,
-    excluded: &List<Text>,
-) -> Result<AutoRow, NoMemory>
-    ensures { IfOk result (λ row. row ≡ new_auto folder template excluded.now) }
-{
-    Ok(AutoRow {
-        folder,
-        template,
-        excluded: excluded.copy(alloc)?,
-    })
-}
-
-// Whether a child of a folder is a folder to which the folder's auto-apply quota gives a quota.
-fn gets_one<L: Ledger>(
-    tree: &Tree,
-    objects: &Objects,
-    row: &AutoRow,
-    child: u32,
-    steps: &mut Steps<L>,
-) -> bool
-    requires { has_row number child tree.now.nodes ≡ true }
-    ensures value { result ≡ (is_folder tree.now.nodes child && gets_one tree.now.nodes objects.now.quotas row.now child) }
-    ensures looks { steps.new ≤ steps.old + 1 }
-{
-    let view = tree.node(child, steps);
-    view.folder && !excludes(row, view.name) && objects.quota(child).is_none()
-}
-
-// Puts those of some children that get a quota after other folders. It takes a look for each child.
-fn put_given<L: Ledger>(
-    tree: &Tree,
-    objects: &Objects,
-    row: &AutoRow,
-    siblings: &Siblings<'_>,
-    folders: &mut Vec<u32>,
-    steps: &mut Steps<L>,
-) -> Result<(), NoMemory>
-    requires { AreThere tree.now.nodes siblings.now }
-    ensures ok { OnOk result (folders.new.items ≡ folders.old.items ++ filter (λ child. is_folder tree.now.nodes child && gets_one tree.now.nodes objects.now.quotas row.now child) siblings.now) }
-    ensures looks { steps.new ≤ steps.old + length siblings.now }
-{
-    for place in 0..siblings.len() {
-        let child = siblings.number(place);
-        if gets_one(tree, objects, row, child, steps) {
-            folders.push(child)?;
-        }
-    }
-    Ok(())
-}
-
-// The same of all children. It takes two looks for each.
-fn put_all_given<L: Ledger>(
-    tree: &Tree,
-    objects: &Objects,
-    row: &AutoRow,
-    children: &mut Children<'_>,
-    folders: &mut Vec<u32>,
-    steps: &mut Steps<L>,
-) -> Result<(), NoMemory>
-    requires { AreThere tree.now.nodes children.old }
-    ensures ok { OnOk result (folders.new.items ≡ folders.old.items ++ filter (λ child. is_folder tree.now.nodes child && gets_one tree.now.nodes objects.now.quotas row.now child) children.old) }
-    ensures looks { steps.new ≤ steps.old + 2 * length children.old }
-{
-    while let Some(siblings) = children.next(steps) {
-        put_given(tree, objects, row, &siblings, folders, steps)?;
-    }
-    Ok(())
-}
-
-// The folders in its folder to which an auto-apply quota gives quotas, in the order of their numbers.
-fn given_folders<L: Ledger>(
-    tree: &Tree,
-    objects: &Objects,
-    alloc: Global,
-    row: &AutoRow,
-    steps: &mut Steps<L>,
-) -> Result<Vec<u32>, NoMemory>
-    requires { IsVolume tree.now.size tree.now.nodes }
-    ensures folders { IfOk result (λ folders. folders.items ≡ given_folders tree.now.nodes objects.now.quotas row.now) }
-    ensures looks { steps.new ≤ steps.old + (1 + 2 * length (children tree.now.nodes row.now.folder)) }
-{
-    let mut folders = Vec::new(alloc);
-    let mut children = tree.children(row.folder, &mut Finger::default(), steps);
-    put_all_given(tree, objects, row, &mut children, &mut folders, steps)?;
-    folders.sort_unstable();
-    Ok(folders)
-}
 
 impl Parts {
     // Refuses an auto-apply quota that gives so many quotas, if there would be too many of either or their texts too

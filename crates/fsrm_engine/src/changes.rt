@@ -1,16 +1,15 @@
 //! Files that get another length, or are read.
 
-ghost use Rattle.std.specs.Prelude.{◌≡◌, ◌+◌, ◌≤◌};
+ghost use Rattle.std.specs.Prelude.{◌+◌, ◌≤◌};
 ghost use Rattle.fsrm_model.specs.declared.command.Deed.TheVariants.{File};
 ghost use Rattle.fsrm_model.specs.declared.command.FileOp.TheVariants.{Resize, Touch};
 ghost use Rattle.fsrm_model.specs.commands.Cost.{deed_cost};
 ghost use Rattle.fsrm_model.specs.values.Limits.{longest_file};
 ghost use Rattle.fsrm_engine.specs.Machine.{Does, IsReady, IsSound, rows_of};
 
-use crate::exits::refused;
 use crate::parts::Parts;
-use crate::places::file_at;
 use fsrm_model::{Answer, Ledger, Path, Refusal, Steps};
+use fsrm_parts::{file_at, refused};
 use quota_usage::Change;
 
 impl Parts {

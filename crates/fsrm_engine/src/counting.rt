@@ -5,38 +5,22 @@ ghost use Rattle.std.specs.List.{list_all};
 ghost use Rattle.fsrm_model.specs.declared.row.QuotaRow.{QuotaRow};
 ghost use Rattle.fsrm_model.specs.declared.row.QuotaState.TheVariants.{Rebuilding};
 ghost use Rattle.fsrm_base.specs.Keyed.{has_row, is_ascending, row_of, with_row, with_change, without_row};
-ghost use Rattle.fsrm_model.specs.values.Limits.{most_quotas};
 ghost use Rattle.fsrm_model.specs.objects.Quota.{folder_of, counts, is_limit};
 ghost use Rattle.fsrm_model.specs.objects.QuotaStates.{in_state};
 ghost use Rattle.fsrm_model.specs.objects.Thresholds.{are_thresholds, is_threshold, percent_of};
 ghost use Rattle.fsrm_model.specs.nodes.Tree.{is_folder, usage};
 ghost use Rattle.fsrm_model.specs.store.Valid.{is_moment};
 ghost use Rattle.fsrm_objects.specs.Tables.{IsFault, other_fault, quota_fault};
-ghost use Rattle.quota_usage.specs.Counters.{counted, with_counter, without_counter};
+ghost use Rattle.quota_usage.specs.Counters.{counted};
 ghost use Rattle.fsrm_engine.specs.Due.{Completes, MaySettle};
 ghost use Rattle.fsrm_engine.specs.Faults.{text_room};
 ghost use Rattle.fsrm_engine.specs.Machine.{AreCounted, recounted};
 
-use crate::charging::{drop_quota, end_count, raise_peak};
 use crate::parts::Parts;
 use fsrm_model::limits::MOST_TEXT_BYTES;
 use fsrm_model::{QuotaRow, QuotaState};
 use fsrm_objects::ObjectFault;
-use quota_usage::Usage;
-
-// Has a folder counted, from nothing if it wasn't, or counted no longer.
-fn recount(usage: &mut Usage, folder: u32, counting: bool)
-    requires room { counting ≡ true → has_row counted folder usage.old ≡ false → length usage.old < most_quotas }
-    ensures ended { counting ≡ false → usage.new ≡ without_counter usage.old folder }
-    ensures begun { counting ≡ true → has_row counted folder usage.old ≡ false → usage.new ≡ with_counter usage.old folder 0 }
-    ensures held { counting ≡ true → has_row counted folder usage.old ≡ true → usage.new ≡ usage.old }
-{
-    if !counting {
-        end_count(usage, folder);
-    } else if usage.used(folder).is_none() {
-        usage.begin(folder, 0);
-    }
-}
+use fsrm_parts::{drop_quota, end_count, raise_peak, recount};
 
 impl Parts {
     /// How many bytes of objects' texts may still come.

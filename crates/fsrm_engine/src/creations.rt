@@ -1,47 +1,20 @@
 //! Folders and files that are made.
 
-ghost use Rattle.std.specs.Prelude.{◌≡◌, ◌+◌, ◌*◌, ◌≤◌, true, length, IfErr, IfOk, OnErr, Some};
+ghost use Rattle.std.specs.Prelude.{◌≡◌, ◌+◌, ◌≤◌, true, IfOk, OnErr};
 ghost use Rattle.fsrm_model.specs.declared.command.Deed.TheVariants.{File};
 ghost use Rattle.fsrm_model.specs.declared.command.FileOp.TheVariants.{Mkdir, Create};
 ghost use Rattle.fsrm_model.specs.commands.Cost.{deed_cost};
 ghost use Rattle.fsrm_model.specs.values.Limits.{longest_file};
-ghost use Rattle.fsrm_model.specs.store.Valid.{IsVolume};
-ghost use Rattle.fsrm_engine.specs.Faults.{new_refusal};
 ghost use Rattle.fsrm_engine.specs.Machine.{Does, IsReady, IsSound, rows_of};
 ghost use Rattle.fsrm_engine.specs.Memory.{may_want_memory};
-ghost use Rattle.fsrm_engine.specs.Places.{IsVacant};
 
-use crate::exits::{refusal_of, refused};
 use crate::parts::Parts;
-use crate::places::{Place, place_at};
-use crate::screening::blocking;
-use fsrm_model::{Answer, Ledger, NoMemory, Path, Refusal, Steps};
+use fsrm_model::{Answer, Ledger, NoMemory, Path, Steps};
+use fsrm_parts::{blocking, refused, vacancy_at};
 use quota_usage::Change;
 use std::alloc::Global;
-use volume_tree::Finger;
 
 impl Parts {
-    // Where a node may be made: its place, and where the tree is to put it. Or why none can be made at this path.
-    fn vacancy_at<'a, L: Ledger>(
-        &self,
-        path: &'a Path,
-        steps: &mut Steps<L>,
-    ) -> Result<(Place<'a>, Finger), Refusal>
-        requires { IsVolume self.now.tree.size self.now.tree.nodes }
-        ensures ok { IfOk result (λ found. IsVacant self.now.tree path.now found.0.folder found.0.name.now) }
-        ensures err { IfErr result (λ refusal. new_refusal self.now.tree path.now ≡ Some refusal) }
-        ensures looks { steps.new ≤ steps.old + (22 * length path.now + 23) }
-    {
-        let place = match place_at(&self.tree, path, steps) {
-            Ok(place) => place,
-            Err(refusal) => return Err(refusal),
-        };
-        match self.tree.may_create(place.folder, place.name, steps) {
-            Ok(finger) => Ok((place, finger)),
-            Err(fault) => Err(refusal_of(fault)),
-        }
-    }
-
     /// Makes a folder. If the folder that it stands in has an auto-apply quota that doesn't leave it out, it gets a
     /// quota: only then can memory run out.
     pub(crate) fn mkdir<L: Ledger>(
@@ -60,7 +33,7 @@ impl Parts {
         ensures sound { IsSound self.new }
         ensures looks { steps.new ≤ steps.old + deed_cost (rows_of self.old) (File (Mkdir path.now owner)) }
     {
-        let (place, vacancy) = match self.vacancy_at(path, steps) {
+        let (place, vacancy) = match vacancy_at(&self.tree, path, steps) {
             Ok(found) => found,
             Err(refusal) => return Ok(refused(refusal)),
         };
@@ -89,7 +62,7 @@ impl Parts {
         ensures sound { IsSound self.new }
         ensures looks { steps.new ≤ steps.old + deed_cost (rows_of self.old) (File (Create path.now length owner)) }
     {
-        let (place, vacancy) = match self.vacancy_at(path, steps) {
+        let (place, vacancy) = match vacancy_at(&self.tree, path, steps) {
             Ok(found) => found,
             Err(refusal) => return refused(refusal),
         };

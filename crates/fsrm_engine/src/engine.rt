@@ -19,13 +19,12 @@ ghost use Rattle.fsrm_model.specs.store.Valued.{is_op, is_command};
 ghost use Rattle.fsrm_engine.specs.Machine.{Takes};
 ghost use Rattle.fsrm_engine.specs.Memory.{may_want_memory};
 
-use crate::acts::text_of;
-use crate::exits::refused;
 use crate::parts::Parts;
 use file_groups::Groups;
 use file_screens::Audit;
 use fsrm_model::{Act, Answer, Capacity, Command, FileOp, Ledger, NoMemory, Refusal, Steps};
 use fsrm_objects::Objects;
+use fsrm_parts::{refused, text_of};
 use std::alloc::Global;
 use std::marker::Model;
 use templates::Templates;

@@ -1,96 +1,22 @@
 //! The commands on file groups.
 
 ghost use Rattle.std.specs.Prelude.{◌≡◌, true, IfOk, OnErr};
-ghost use Rattle.std.specs.List.{list_all, list_any};
-ghost use Rattle.std.specs.Option.{option_map_or};
-ghost use Rattle.fsrm_base.specs.Numbers.{is_in};
 ghost use Rattle.fsrm_model.specs.declared.command.Deed.TheVariants.{Filegroup};
 ghost use Rattle.fsrm_model.specs.declared.command.FilegroupDeed.TheVariants.{Add as FilegroupAdd, Modify as FilegroupModify, Delete as FilegroupDelete, List as FilegroupList};
 ghost use Rattle.fsrm_model.specs.commands.Commands.{is_new_filegroup, is_filegroup_change};
 ghost use Rattle.fsrm_model.specs.commands.GroupWork.{is_used};
-ghost use Rattle.fsrm_model.specs.values.Patterns.{is_pattern};
 ghost use Rattle.fsrm_model.specs.store.Valued.{is_deed};
 ghost use Rattle.fsrm_engine.specs.Machine.{Does, IsReady, IsSound, rows_of};
 ghost use Rattle.fsrm_engine.specs.Memory.{may_want_memory};
 
-use crate::exits::{listing, refused, refused_by_groups};
 use crate::parts::Parts;
 use fsrm_model::{
     Answer, Ask, FilegroupChange, FilegroupDeed, List, NewFilegroup, NoMemory, Refusal, Text,
 };
-use fsrm_objects::Objects;
-use name_patterns::Pattern;
+use fsrm_parts::{given_patterns, is_used, listing, patterns_of, refused, refused_by_groups};
 use std::alloc::Global;
 
-// The pattern that a text is.
-fn pattern_of(alloc: Global, text: &Text) -> Result<Pattern, NoMemory>
-    requires { is_pattern text.now ≡ true }
-    ensures { IfOk result (λ pattern. pattern ≡ text.now) }
-{
-    match Pattern::read(alloc, text.as_str()) {
-        Ok(pattern) => Ok(pattern),
-        Err(_) => Err(NoMemory),
-    }
-}
-
-// The patterns that texts are.
-fn patterns_of(alloc: Global, texts: &List<Text>) -> Result<List<Pattern>, NoMemory>
-    requires { list_all is_pattern texts.now ≡ true }
-    ensures { IfOk result (λ patterns. patterns ≡ texts.now) }
-{
-    let mut patterns = List::new(alloc);
-    for text in texts.as_slice() {
-        patterns.push(pattern_of(alloc, text)?)?;
-    }
-    Ok(patterns)
-}
-
-// The same of texts that may be given.
-fn given_patterns(
-    alloc: Global,
-    texts: &Option<List<Text>>,
-) -> Result<Option<List<Pattern>>, NoMemory>
-    requires { option_map_or (list_all is_pattern) texts.now true ≡ true }
-    ensures { IfOk result (λ patterns. patterns ≡ texts.now) }
-{
-    match texts {
-        Some(texts) => Ok(Some(patterns_of(alloc, texts)?)),
-        None => Ok(None),
-    }
-}
-
-// Whether a screen names a group.
-fn is_screened(objects: &Objects, number: u32) -> bool
-    ensures { result ≡ list_any (λ screen. is_in screen.groups number) objects.now.screens }
-{
-    for place in 0..objects.screen_count() {
-        if objects.screen_at(place).groups.as_slice().contains(&number) {
-            return true;
-        }
-    }
-    false
-}
-
-// Whether an exception names a group.
-fn is_excepted(objects: &Objects, number: u32) -> bool
-    ensures { result ≡ list_any (λ except. is_in except.groups number) objects.now.excepts }
-{
-    for place in 0..objects.except_count() {
-        if objects.except_at(place).groups.as_slice().contains(&number) {
-            return true;
-        }
-    }
-    false
-}
-
 impl Parts {
-    // Whether a screen or an exception names a group.
-    fn is_used(&self, number: u32) -> bool
-        ensures { result ≡ is_used (rows_of self.now) number }
-    {
-        is_screened(&self.objects, number) || is_excepted(&self.objects, number)
-    }
-
     // Makes a file group.
     fn group_add(
         &mut self,
@@ -153,7 +79,7 @@ impl Parts {
         let Some(group) = self.groups.find(name.as_str()) else {
             return refused(Refusal::NotFound);
         };
-        if self.is_used(group) {
+        if is_used(&self.objects, group) {
             return refused(Refusal::InUse);
         }
         self.groups.delete(group);

@@ -22,7 +22,6 @@
 //! gives quotas.
 #![tactic(auto)]
 
-mod acts;
 mod admin;
 mod applying;
 mod arrivals;
@@ -35,16 +34,12 @@ mod counting;
 mod creations;
 mod due;
 mod engine;
-mod exits;
-mod filling;
 mod finishing;
 mod flagging;
-mod group_lists;
 mod groups;
 mod moves;
 mod parts;
 mod path_text;
-mod places;
 mod quota_templates;
 mod quotas;
 mod removals;
@@ -55,8 +50,6 @@ mod scanning;
 mod screening;
 mod screens;
 mod states;
-mod sums;
-mod threshold_lists;
 mod updates;
 mod usage;
 

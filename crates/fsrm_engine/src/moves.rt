@@ -8,49 +8,19 @@ ghost use Rattle.fsrm_model.specs.commands.Check.{first};
 ghost use Rattle.fsrm_model.specs.commands.Cost.{deed_cost};
 ghost use Rattle.fsrm_model.specs.commands.FileWork.{file_effect, move_checks};
 ghost use Rattle.fsrm_model.specs.texts.Text.{is_bare};
-ghost use Rattle.fsrm_base.specs.Keyed.{has_row};
-ghost use Rattle.fsrm_model.specs.nodes.Tree.{number as key, is_folder, under};
+ghost use Rattle.fsrm_model.specs.nodes.Tree.{under};
 ghost use Rattle.fsrm_model.specs.store.Valid.{IsVolume};
-ghost use Rattle.fsrm_engine.specs.Machine.{AreCounted, Does, IsReady, IsSound, rows_of};
+ghost use Rattle.fsrm_engine.specs.Machine.{Does, IsReady, IsSound, rows_of};
 ghost use Rattle.fsrm_engine.specs.Memory.{may_want_memory};
-ghost use Rattle.fsrm_engine.specs.Moves.{AreMoved, IsMove, IsSourceOfMove, MayMove, change_of};
+ghost use Rattle.fsrm_engine.specs.Moves.{IsMove, MayMove, change_of};
 
-use crate::exits::{refusal_of, refused};
 use crate::parts::Parts;
-use crate::places::{Place, place_at};
-use crate::screening::blocking;
-use crate::usage::usage_of;
 use file_screens::Blocked;
 use fsrm_model::{Answer, Ledger, NoMemory, Path, Refusal, Steps};
-use fsrm_objects::Objects;
+use fsrm_parts::{Moving, blocking, moved_bytes, moved_source, place_at, refusal_of, refused};
 use quota_usage::Change;
 use std::alloc::Global;
-use templates::Templates;
 use volume_tree::ReadyMove;
-
-/// A node that moves, as it is before the move, and the place that it goes to.
-#[derive(Clone, Copy)]
-pub struct Moving<'a> {
-    pub node: u32,
-    pub parent: u32,
-    pub owner: u32,
-    pub folder: bool,
-    pub place: Place<'a>,
-}
-
-// The template of the quota that a node gets at its new place. A file gets none, and a folder that has one no other.
-fn moved_source(templates: &Templates, objects: &Objects, moving: &Moving<'_>) -> Option<u32>
-    ensures { IsSourceOfMove objects.now.quotas templates.now moving.now result }
-{
-    if !moving.folder {
-        return None;
-    }
-    let source = templates.template_for(moving.place.folder, moving.place.name)?;
-    if objects.quota(moving.node).is_some() {
-        return None;
-    }
-    Some(source)
-}
 
 impl Parts {
     // What is to move, and the move that the tree has ready. Or why it can't be made.
@@ -92,33 +62,6 @@ impl Parts {
         Ok((moving, ready))
     }
 
-    // The bytes that move with a node. A file's are those that it takes. A folder's are added up, which takes memory;
-    // they aren't if there is no quota and none comes. (If one comes and there is no other, nothing asks for them
-    // either.)
-    fn moved_bytes<L: Ledger>(
-        &self,
-        alloc: Global,
-        moving: &Moving<'_>,
-        source: Option<u32>,
-        steps: &mut Steps<L>,
-    ) -> Result<u64, NoMemory>
-        requires counted { AreCounted self.now }
-        requires there { has_row key moving.now.node self.now.tree.nodes ≡ true }
-        requires kind { is_folder self.now.tree.nodes moving.now.node ≡ moving.now.folder }
-        ensures moved { IfOk result (λ bytes. AreMoved self.now moving.now.node source bytes) }
-        ensures memory { OnErr result (moving.now.folder ≡ true) }
-        ensures looks { steps.new ≤ steps.old + 3 * length (under self.now.tree.nodes moving.now.node) }
-    {
-        if !moving.folder {
-            let file = self.tree.node(moving.node, steps);
-            return Ok(self.tree.allocated(file.length));
-        }
-        if source.is_none() && self.objects.quota_count() == 0 {
-            return Ok(0);
-        }
-        usage_of(&self.tree, alloc, moving.node, steps)
-    }
-
     /// Moves a file, or a folder with all that is in it, if no screen blocks the file's new name and no quota refuses
     /// it. A folder gets a quota if its new place gives it one. Memory can run out only for a folder.
     pub(crate) fn move_path<L: Ledger>(
@@ -149,7 +92,7 @@ impl Parts {
         if let Some(active) = blocking(judged) {
             return Ok(self.block(active, moving.owner, place.folder, place.name, moment));
         }
-        let bytes = self.moved_bytes(alloc, &moving, source, steps)?;
+        let bytes = moved_bytes(&self.tree, &self.objects, alloc, &moving, source, steps)?;
         let change = Change {
             from: Some(moving.parent),
             to: Some(place.folder),

@@ -8,12 +8,12 @@ ghost use Rattle.fsrm_model.specs.declared.command.Outcome.TheVariants.{Done};
 ghost use Rattle.quota_usage.specs.Charge.{IsChange, Fits, exceeded_by, height};
 ghost use Rattle.fsrm_engine.specs.Machine.{bare, machine_of, ended, AreCounted, IsWhole};
 
-use crate::charging::raise_all;
 use file_groups::Groups;
 use file_screens::{Audit, Blocked};
 use fsrm_model::limits::MOST_QUOTAS;
 use fsrm_model::{Answer, Capacity, Ledger, NoMemory, Outcome, Steps};
 use fsrm_objects::Objects;
+use fsrm_parts::raise_all;
 use number_set::NumberSet;
 use quota_usage::{Change, Exceeded, Usage};
 use rescan::Scans;

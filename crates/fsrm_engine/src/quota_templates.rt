@@ -2,69 +2,27 @@
 
 ghost use Rattle.std.specs.Prelude.{◌≡◌, true, IfOk, OnErr};
 ghost use Rattle.std.specs.Option.{option_copied};
-ghost use Rattle.fsrm_base.specs.Keyed.{is_ascending};
 ghost use Rattle.fsrm_model.specs.declared.command.Deed.TheVariants.{Template};
 ghost use Rattle.fsrm_model.specs.declared.command.TemplateDeed.TheVariants.{Add as TemplateAdd, Modify as TemplateModify, Delete as TemplateDelete, List as TemplateList};
 ghost use Rattle.fsrm_model.specs.commands.Commands.{is_new_template, is_template_change};
 ghost use Rattle.fsrm_model.specs.objects.Templates.{template_named};
 ghost use Rattle.fsrm_model.specs.commands.TemplateWork.{retemplated};
-ghost use Rattle.fsrm_model.specs.objects.Thresholds.{percent_of};
 ghost use Rattle.fsrm_model.specs.store.Valid.{IsValid};
 ghost use Rattle.fsrm_model.specs.store.Valued.{is_deed};
 ghost use Rattle.fsrm_engine.specs.Machine.{Does, IsReady, IsSound, rows_of};
 ghost use Rattle.fsrm_engine.specs.Memory.{may_want_memory};
 
-use crate::exits::{listing, refused, refused_by_templates};
 use crate::parts::Parts;
-use crate::threshold_lists::{changed_thresholds, may_be_removed};
 use fsrm_model::{
-    Answer, Ask, Duplicate, List, NewTemplate, NoMemory, Refusal, TemplateChange, TemplateDeed,
-    TemplateRow, Text, Threshold,
+    Answer, Ask, List, NewTemplate, NoMemory, Refusal, TemplateChange, TemplateDeed, TemplateRow,
+    Text,
 };
 use fsrm_objects::are_too_many;
+use fsrm_parts::{
+    changed_thresholds, listing, may_be_removed, new_template, refused, refused_by_templates,
+    retemplated,
+};
 use std::alloc::Global;
-
-// A template whose number is to come.
-fn new_template(
-    alloc: Global,
-    name: &Text,
-    limit: u64,
-    enforce: bool,
-    thresholds: List<Threshold>,
-) -> Result<TemplateRow, NoMemory>
-    ensures { IfOk result (λ row. row ≡ record { number = 0; name = name.now; limit = limit; enforce = enforce; thresholds = thresholds }) }
-{
-    Ok(TemplateRow {
-        number: 0,
-        name: name.copy(alloc)?,
-        limit,
-        enforce,
-        thresholds,
-    })
-}
-
-// A template with another limit, or of another type, if these are given, and with changed thresholds.
-fn retemplated(
-    alloc: Global,
-    template: &TemplateRow,
-    change: &TemplateChange,
-) -> Result<TemplateRow, NoMemory>
-    requires { is_ascending percent_of template.now.thresholds ≡ true }
-    ensures { IfOk result (λ row. row ≡ retemplated change.now template.now) }
-{
-    Ok(TemplateRow {
-        number: template.number,
-        name: template.name.copy(alloc)?,
-        limit: change.limit.unwrap_or(template.limit),
-        enforce: change.enforce.unwrap_or(template.enforce),
-        thresholds: changed_thresholds(
-            alloc,
-            &change.removed,
-            &change.thresholds,
-            &template.thresholds,
-        )?,
-    })
-}
 
 impl Parts {
     /// The template of a name, in any spelling.

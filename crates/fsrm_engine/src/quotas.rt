@@ -1,77 +1,27 @@
 //! The commands on quotas.
 
-ghost use Rattle.std.specs.Prelude.{◌≡◌, ◌+◌, ◌*◌, ◌≤◌, true, false, length, IfOk, OnErr, Some, None};
-ghost use Rattle.fsrm_base.specs.Keyed.{is_ascending};
+ghost use Rattle.std.specs.Prelude.{◌≡◌, ◌+◌, ◌*◌, ◌≤◌, true, length, IfOk, OnErr, Some, None};
 ghost use Rattle.fsrm_model.specs.declared.command.Deed.TheVariants.{Quota};
 ghost use Rattle.fsrm_model.specs.declared.command.QuotaDeed.TheVariants.{Add as QuotaAdd, Modify as QuotaModify, Delete as QuotaDelete, Scan as QuotaScan, Resetpeak as QuotaResetpeak, List as QuotaList};
 ghost use Rattle.fsrm_model.specs.commands.Commands.{is_new_quota, is_quota_change};
 ghost use Rattle.fsrm_model.specs.commands.Cost.{deed_cost};
 ghost use Rattle.fsrm_model.specs.objects.QuotaStates.{is_disabled};
-ghost use Rattle.fsrm_model.specs.commands.QuotaWork.{new_quota, modified, remarked};
-ghost use Rattle.fsrm_model.specs.objects.Thresholds.{percent_of};
+ghost use Rattle.fsrm_model.specs.commands.QuotaWork.{new_quota, modified};
 ghost use Rattle.fsrm_model.specs.store.Valued.{is_deed};
 ghost use Rattle.fsrm_engine.specs.Machine.{Does, IsReady, IsSound, rows_of};
 ghost use Rattle.fsrm_engine.specs.Memory.{may_want_memory};
 ghost use Rattle.fsrm_engine.specs.Sources.{IsFirst};
 
-use crate::exits::{listing, passing, refused, refused_for};
 use crate::parts::Parts;
-use crate::places::folder_at;
-use crate::states::first_state;
-use crate::threshold_lists::{changed_thresholds, may_be_removed};
 use fsrm_model::{
-    Answer, Ask, Duplicate, Ledger, List, NewQuota, NewThresholds, NoMemory, Outcome, Path,
-    QuotaChange, QuotaDeed, QuotaRow, QuotaState, Refusal, Steps, Text,
+    Answer, Ask, Duplicate, Ledger, List, NewQuota, NoMemory, Outcome, Path, QuotaChange,
+    QuotaDeed, QuotaRow, QuotaState, Refusal, Steps, Text,
+};
+use fsrm_parts::{
+    first_state, folder_at, is_disabled, listing, may_be_removed, modified, new_quota, passing,
+    quota_at, refused, refused_for, state_after,
 };
 use std::alloc::Global;
-
-// A hard quota without thresholds, whose limit is to come.
-fn new_quota(alloc: Global, folder: u32, state: QuotaState, moment: u64) -> QuotaRow
-    ensures { result ≡ new_quota folder 0 true state moment }
-{
-    QuotaRow {
-        folder,
-        limit: 0,
-        enforce: true,
-        state,
-        thresholds: List::new(alloc),
-        template: None,
-        peak: 0,
-        peak_at: moment,
-    }
-}
-
-// Whether a quota of this state is disabled.
-fn is_disabled(state: QuotaState) -> bool
-    ensures { result ≡ is_disabled state }
-{
-    state == QuotaState::Disabled
-}
-
-// A quota with another limit, or of another type, if these are given; of its thresholds some are removed, and then some
-// are added.
-fn modified(
-    alloc: Global,
-    quota: &QuotaRow,
-    limit: Option<u64>,
-    enforce: Option<bool>,
-    removed: &List<u16>,
-    added: &NewThresholds,
-) -> Result<QuotaRow, NoMemory>
-    requires { is_ascending percent_of quota.now.thresholds ≡ true }
-    ensures { IfOk result (λ row. row ≡ remarked removed.now added.now (modified limit enforce quota.now)) }
-{
-    Ok(QuotaRow {
-        folder: quota.folder,
-        limit: limit.unwrap_or(quota.limit),
-        enforce: enforce.unwrap_or(quota.enforce),
-        state: quota.state,
-        thresholds: changed_thresholds(alloc, removed, added, &quota.thresholds)?,
-        template: quota.template,
-        peak: quota.peak,
-        peak_at: quota.peak_at,
-    })
-}
 
 impl Parts {
     // A folder's quota before the options of a command change it: that of a template, if one is named, else a hard one
@@ -155,7 +105,7 @@ impl Parts {
         ensures sound { IsSound self.new }
         ensures looks { steps.new ≤ steps.old + deed_cost (rows_of self.old) (Quota (QuotaModify change.now)) }
     {
-        let quota = match self.quota_at(&change.path, steps) {
+        let quota = match quota_at(&self.tree, &self.objects, &change.path, steps) {
             Ok(quota) => quota,
             Err(refusal) => return Ok(refused(refusal)),
         };
@@ -171,7 +121,13 @@ impl Parts {
             &change.removed,
             &change.thresholds,
         )?;
-        row.state = self.state_after(before.folder, before.state, change.enabled, steps);
+        row.state = state_after(
+            &self.tree,
+            before.folder,
+            before.state,
+            change.enabled,
+            steps,
+        );
         if let Err(fault) = self.may_put(&row) {
             return refused_for(fault);
         }
@@ -188,7 +144,7 @@ impl Parts {
         ensures sound { IsSound self.new }
         ensures looks { steps.new ≤ steps.old + deed_cost (rows_of self.old) (Quota (QuotaDelete path.now)) }
     {
-        let folder = match self.quota_at(path, steps) {
+        let folder = match quota_at(&self.tree, &self.objects, path, steps) {
             Ok(quota) => quota.folder,
             Err(refusal) => return refused(refusal),
         };
@@ -204,7 +160,7 @@ impl Parts {
         ensures sound { IsSound self.new }
         ensures looks { steps.new ≤ steps.old + deed_cost (rows_of self.old) (Quota (QuotaScan path.now)) }
     {
-        let quota = match self.quota_at(path, steps) {
+        let quota = match quota_at(&self.tree, &self.objects, path, steps) {
             Ok(quota) => quota,
             Err(refusal) => return refused(refusal),
         };
@@ -232,7 +188,7 @@ impl Parts {
         ensures sound { IsSound self.new }
         ensures looks { steps.new ≤ steps.old + deed_cost (rows_of self.old) (Quota (QuotaResetpeak path.now)) }
     {
-        let folder = match self.quota_at(path, steps) {
+        let folder = match quota_at(&self.tree, &self.objects, path, steps) {
             Ok(quota) => quota.folder,
             Err(refusal) => return refused(refusal),
         };
@@ -247,7 +203,7 @@ impl Parts {
         ensures ok { Does self.now self.now moment (Quota (QuotaList (Some path.now))) result }
         ensures looks { steps.new ≤ steps.old + (22 * length path.now + 2) }
     {
-        let folder = match self.quota_at(path, steps) {
+        let folder = match quota_at(&self.tree, &self.objects, path, steps) {
             Ok(quota) => quota.folder,
             Err(refusal) => return refused(refusal),
         };

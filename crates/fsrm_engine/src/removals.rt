@@ -5,52 +5,12 @@ ghost use Rattle.fsrm_model.specs.declared.command.Deed.TheVariants.{File};
 ghost use Rattle.fsrm_model.specs.declared.command.FileOp.TheVariants.{Remove};
 ghost use Rattle.fsrm_model.specs.commands.Cost.{deed_cost};
 ghost use Rattle.fsrm_model.specs.nodes.Tree.{resolve, is_folder};
-ghost use Rattle.fsrm_objects.specs.Tables.{without_except, without_screen};
-ghost use Rattle.templates.specs.Held.{without_auto};
 ghost use Rattle.fsrm_engine.specs.Machine.{Does, IsReady, IsSound, rows_of};
 
-use crate::charging::drop_quota;
-use crate::exits::refused;
 use crate::parts::Parts;
 use fsrm_model::{Answer, Ledger, Path, Refusal, Steps};
-use fsrm_objects::Objects;
+use fsrm_parts::{drop_auto, drop_quota, drop_screens, refused};
 use quota_usage::Change;
-use templates::Templates;
-
-// Takes a folder's screen away, if it has one.
-fn drop_screen(objects: &mut Objects, folder: u32)
-    ensures { objects.new ≡ without_screen objects.old folder }
-{
-    if objects.screen(folder).is_some() {
-        objects.drop_screen(folder);
-    }
-}
-
-// Takes a folder's exception away, if it has one.
-fn drop_except(objects: &mut Objects, folder: u32)
-    ensures { objects.new ≡ without_except objects.old folder }
-{
-    if objects.except(folder).is_some() {
-        objects.drop_except(folder);
-    }
-}
-
-// Takes a folder's auto-apply quota away, if it has one.
-fn drop_auto(templates: &mut Templates, folder: u32)
-    ensures { templates.new ≡ without_auto templates.old folder }
-{
-    if templates.auto(folder).is_some() {
-        templates.drop_auto(folder);
-    }
-}
-
-// Takes a folder's screen and its exception away, if it has one.
-fn drop_screens(objects: &mut Objects, folder: u32)
-    ensures { objects.new ≡ without_except (without_screen objects.old folder) folder }
-{
-    drop_screen(objects, folder);
-    drop_except(objects, folder);
-}
 
 impl Parts {
     /// Removes a file, or a folder in which nothing is.

@@ -1,9 +1,8 @@
 //! The commands on reports and report jobs.
 
-ghost use Rattle.std.specs.Prelude.{◌≡◌, ◌+◌, ◌≤◌, true, unwrap_or, [], None, IfOk, OnErr};
+ghost use Rattle.std.specs.Prelude.{◌≡◌, ◌+◌, ◌≤◌, true, IfOk, OnErr};
 ghost use Rattle.std.specs.Option.{option_copied};
 ghost use Rattle.fsrm_model.specs.declared.command.Deed.TheVariants.{Reports};
-ghost use Rattle.fsrm_model.specs.declared.command.Outcome.TheVariants.{Report};
 ghost use Rattle.fsrm_model.specs.declared.command.ReportsDeed.TheVariants.{Generate as ReportsGenerate, Add as ReportsAdd, Delete as ReportsDelete, Run as ReportsRun, List as ReportsList};
 ghost use Rattle.fsrm_model.specs.commands.Commands.{is_new_job};
 ghost use Rattle.fsrm_model.specs.commands.Cost.{deed_cost};
@@ -12,60 +11,13 @@ ghost use Rattle.fsrm_model.specs.store.Valid.{IsValid};
 ghost use Rattle.fsrm_model.specs.store.Valued.{is_deed};
 ghost use Rattle.fsrm_engine.specs.Machine.{Does, IsReady, IsSound, rows_of};
 ghost use Rattle.fsrm_engine.specs.Memory.{may_want_memory};
-ghost use Rattle.fsrm_engine.specs.Jobs.{blank_job};
 
-use crate::exits::{listing, passing, refused, refused_for};
 use crate::parts::Parts;
-use crate::places::folder_at;
 use fsrm_model::{
-    Answer, Ask, Boxed, Duplicate, Filter, JobRow, Ledger, NewJob, NewReport, NoMemory, Outcome,
-    Refusal, ReportAsk, ReportKind, ReportsDeed, Steps, Text,
+    Answer, Ask, JobRow, Ledger, NewJob, NewReport, NoMemory, Refusal, ReportsDeed, Steps, Text,
 };
+use fsrm_parts::{folder_at, listing, new_job, passing, refused, refused_for, report_of};
 use std::alloc::Global;
-
-// The outcome of a command that makes a report.
-fn report_of(
-    alloc: Global,
-    kind: ReportKind,
-    scope: u32,
-    filter: &Filter,
-) -> Result<Outcome, NoMemory>
-    ensures { IfOk result (λ outcome. outcome ≡ Report (record { kind = kind; scope = scope; filter = filter.now })) }
-{
-    let filter = filter.copy(alloc)?;
-    let ask = ReportAsk {
-        kind,
-        scope,
-        filter,
-    };
-    Ok(Outcome::Report(Boxed::new(alloc, ask)?))
-}
-
-// The schedule of a new job, which is empty if none is given.
-fn schedule_of(alloc: Global, schedule: &Option<Text>) -> Result<Text, NoMemory>
-    ensures { IfOk result (λ text. text ≡ unwrap_or schedule.now []) }
-{
-    match schedule {
-        Some(schedule) => schedule.copy(alloc),
-        None => Text::from_str(alloc, ""),
-    }
-}
-
-// A job on a folder, whose number is to come.
-fn new_job(alloc: Global, job: &NewJob, scope: u32, moment: u64) -> Result<JobRow, NoMemory>
-    ensures { IfOk result (λ row. row ≡ blank_job scope moment job.now) }
-{
-    Ok(JobRow {
-        number: 0,
-        name: job.name.copy(alloc)?,
-        kind: job.kind,
-        scope,
-        filter: job.filter.copy(alloc)?,
-        schedule: schedule_of(alloc, &job.schedule)?,
-        made: moment,
-        last_run: None,
-    })
-}
 
 impl Parts {
     // Makes a report of a folder, by the rows as they are.

@@ -1,6 +1,6 @@
 //! Steps of the active scan.
 
-ghost use Rattle.std.specs.Prelude.{◌≡◌, ◌+◌, ◌-◌, ◌==◌, ◌≤◌, true, Some, is_some, length};
+ghost use Rattle.std.specs.Prelude.{◌≡◌, ◌+◌, ◌-◌, ◌≤◌, true, Some, is_some, length};
 ghost use Rattle.fsrm_model.specs.declared.command.Deed.TheVariants.{Step};
 ghost use Rattle.fsrm_model.specs.commands.Cost.{deed_cost, step_cost};
 ghost use Rattle.fsrm_model.specs.objects.QuotaStates.{head};
@@ -10,9 +10,9 @@ ghost use Rattle.rescan.specs.Courses.{Scanning};
 ghost use Rattle.fsrm_engine.specs.Due.{Finishes};
 ghost use Rattle.fsrm_engine.specs.Machine.{Does, IsReady, IsSound, IsWhole, rows_of};
 
-use crate::exits::{passing, refused};
 use crate::parts::Parts;
 use fsrm_model::{Answer, Ledger, Outcome, Refusal, Steps};
+use fsrm_parts::{passing, refused};
 
 impl Parts {
     /// Goes on with the active scan, at a moment that isn't before the last one.

@@ -1,7 +1,7 @@
 //! What screens do to a file operation: they judge the name that it gives a file. The active screen that judges a name
 //! blocks it, and a passive one reports it.
 
-ghost use Rattle.std.specs.Prelude.{◌≡◌, ◌+◌, ◌*◌, ◌≤◌, [], length, true, false, Some, None, MatchOption, option_map, if◌then◌else◌};
+ghost use Rattle.std.specs.Prelude.{◌≡◌, ◌+◌, ◌*◌, ◌≤◌, [], length, true, Some, None, option_map, if◌then◌else◌};
 ghost use Rattle.fsrm_model.specs.declared.command.Outcome.TheVariants.{Done};
 ghost use Rattle.fsrm_model.specs.declared.row.ScreenRow.{ScreenRow};
 ghost use Rattle.fsrm_model.specs.values.Limits.{latest_moment, most_actions, most_entries};
@@ -12,27 +12,16 @@ ghost use Rattle.fsrm_model.specs.store.Valid.{IsValid};
 ghost use Rattle.quota_usage.specs.Charge.{IsChange, Fits, height};
 ghost use Rattle.thresholds.specs.Settled.{are_orderly};
 ghost use Rattle.file_screens.specs.Blocked.{told};
-ghost use Rattle.fsrm_engine.specs.Crossing.{IsCovered};
+ghost use Rattle.fsrm_parts.specs.Crossing.{IsCovered};
 ghost use Rattle.fsrm_engine.specs.Machine.{charged_parts, AreCounted, IsIdle, IsReady, rows_of};
-ghost use Rattle.file_screens.specs.Way.{is_active};
 ghost use Rattle.fsrm_engine.specs.Reporting.{EndsNamed, Reports, name_under, screen_told};
 ghost use Rattle.fsrm_engine.specs.Screening.{Blocks, NotesName, judged_screen};
 
 use crate::parts::Parts;
-use crate::places::Place;
 use file_screens::{Blocked, blocked};
 use fsrm_model::{Answer, Ledger, Outcome, Refusal, Steps};
+use fsrm_parts::Place;
 use quota_usage::Change;
-
-/// The screen that judges a name, if it blocks the name.
-pub fn blocking(judged: Option<Blocked>) -> Option<Blocked>
-    ensures { MatchOption result (is_active judged ≡ false) (λ active. (judged ≡ Some active) × (active.active ≡ true)) }
-{
-    match judged {
-        Some(screen) if screen.active => judged,
-        _ => None,
-    }
-}
 
 impl Parts {
     /// The screen that judges a name which a file is given in a folder.

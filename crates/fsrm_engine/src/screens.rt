@@ -1,84 +1,28 @@
 //! The commands on screens and exceptions.
 
-ghost use Rattle.std.specs.Prelude.{◌≡◌, ◌+◌, ◌*◌, ◌≤◌, true, length, IfOk, IfErr, OnErr, Some};
-ghost use Rattle.fsrm_base.specs.Keyed.{row_of};
+ghost use Rattle.std.specs.Prelude.{◌≡◌, ◌+◌, ◌≤◌, true, IfOk, OnErr, Some};
 ghost use Rattle.fsrm_model.specs.declared.command.Deed.TheVariants.{Screen, Exception};
 ghost use Rattle.fsrm_model.specs.declared.command.ExceptionDeed.TheVariants.{Add as ExceptionAdd, Delete as ExceptionDelete, List as ExceptionList};
 ghost use Rattle.fsrm_model.specs.declared.command.ScreenDeed.TheVariants.{Add as ScreenAdd, Modify as ScreenModify, Delete as ScreenDelete, List as ScreenList};
-ghost use Rattle.fsrm_model.specs.commands.Check.{first};
 ghost use Rattle.fsrm_model.specs.commands.Commands.{is_new_screen, is_new_exception};
 ghost use Rattle.fsrm_model.specs.commands.Cost.{deed_cost};
-ghost use Rattle.fsrm_model.specs.objects.Screens.{screen_folder};
-ghost use Rattle.fsrm_model.specs.commands.ScreenWork.{new_screen, rescreened, screen_checks};
-ghost use Rattle.fsrm_model.specs.store.Valid.{IsVolume};
+ghost use Rattle.fsrm_model.specs.commands.ScreenWork.{new_screen, rescreened};
 ghost use Rattle.fsrm_model.specs.store.Valued.{is_deed};
 ghost use Rattle.fsrm_engine.specs.Machine.{Does, IsReady, IsSound, rows_of};
 ghost use Rattle.fsrm_engine.specs.Memory.{may_want_memory};
-ghost use Rattle.fsrm_engine.specs.Places.{IsFolder};
 
-use crate::exits::{listing, refused, refused_for};
-use crate::group_lists::{changed_groups, groups_with};
 use crate::parts::Parts;
-use crate::places::folder_at;
 use fsrm_model::{
-    Action, Answer, Ask, Duplicate, ExceptRow, ExceptionDeed, Ledger, List, NewException,
-    NewScreen, NoMemory, Path, Refusal, ScreenChange, ScreenDeed, ScreenRow, Steps,
+    Answer, Ask, ExceptRow, ExceptionDeed, Ledger, List, NewException, NewScreen, NoMemory, Path,
+    Refusal, ScreenChange, ScreenDeed, Steps,
+};
+use fsrm_parts::{
+    changed_groups, folder_at, groups_with, listing, new_screen, refused, refused_for, rescreened,
+    screen_at,
 };
 use std::alloc::Global;
 
-// A new screen, with copies of its actions.
-fn new_screen(
-    alloc: Global,
-    folder: u32,
-    active: bool,
-    groups: List<u32>,
-    actions: &List<Action>,
-) -> Result<ScreenRow, NoMemory>
-    ensures { IfOk result (λ row. row ≡ new_screen folder active groups actions.now) }
-{
-    Ok(ScreenRow {
-        folder,
-        active,
-        groups,
-        actions: actions.copy(alloc)?,
-    })
-}
-
-// A screen with these groups, and active or passive if that is given.
-fn rescreened(
-    alloc: Global,
-    screen: &ScreenRow,
-    active: Option<bool>,
-    groups: List<u32>,
-) -> Result<ScreenRow, NoMemory>
-    ensures { IfOk result (λ row. row ≡ rescreened active groups screen.now) }
-{
-    Ok(ScreenRow {
-        folder: screen.folder,
-        active: active.unwrap_or(screen.active),
-        groups,
-        actions: screen.actions.copy(alloc)?,
-    })
-}
-
 impl Parts {
-    // The screen of the folder that a path leads to, lent.
-    fn screen_at<L: Ledger>(&self, path: &Path, steps: &mut Steps<L>) -> Result<&ScreenRow, Refusal>
-        requires { IsVolume self.now.tree.size self.now.tree.nodes }
-        ensures at { IfOk result (λ screen. IsFolder self.now.tree.nodes path.now screen.now.folder) }
-        ensures found { IfOk result (λ screen. row_of screen_folder screen.now.folder self.now.objects.screens ≡ Some screen.now) }
-        ensures err { IfErr result (λ refusal. first (screen_checks (rows_of self.now) path.now) ≡ Some refusal) }
-        ensures looks { steps.new ≤ steps.old + (22 * length path.now + 2) }
-    {
-        let Some(folder) = folder_at(&self.tree, path, steps) else {
-            return Err(Refusal::PathNotFound);
-        };
-        let Some(screen) = self.objects.screen(folder) else {
-            return Err(Refusal::NotFound);
-        };
-        Ok(screen)
-    }
-
     // Puts a screen on a folder.
     fn screen_add<L: Ledger>(
         &mut self,
@@ -131,7 +75,7 @@ impl Parts {
         ensures sound { IsSound self.new }
         ensures looks { steps.new ≤ steps.old + deed_cost (rows_of self.old) (Screen (ScreenModify change.now)) }
     {
-        let screen = match self.screen_at(&change.path, steps) {
+        let screen = match screen_at(&self.tree, &self.objects, &change.path, steps) {
             Ok(screen) => screen,
             Err(refusal) => return Ok(refused(refusal)),
         };
@@ -160,7 +104,7 @@ impl Parts {
         ensures sound { IsSound self.new }
         ensures looks { steps.new ≤ steps.old + deed_cost (rows_of self.old) (Screen (ScreenDelete path.now)) }
     {
-        let folder = match self.screen_at(path, steps) {
+        let folder = match screen_at(&self.tree, &self.objects, path, steps) {
             Ok(screen) => screen.folder,
             Err(refusal) => return refused(refusal),
         };

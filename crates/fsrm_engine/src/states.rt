@@ -1,99 +1,27 @@
 //! The states of quotas, and the queue of those that wait for a scan.
 
-ghost use Rattle.std.specs.Prelude.{◌≡◌, ◌+◌, ◌≤◌, ◌<◌, if◌then◌else◌, true, false, length, IfErr, IsErrOf, OnOk, OnErr, Some, None};
+ghost use Rattle.std.specs.Prelude.{◌≡◌, ◌≤◌, ◌<◌, true, false, length, IfErr, IsErrOf, OnOk, OnErr, Some, None};
 ghost use Rattle.std.specs.List.{list_all};
 ghost use Rattle.fsrm_model.specs.declared.row.QuotaRow.{QuotaRow};
-ghost use Rattle.fsrm_model.specs.declared.row.QuotaState.TheVariants.{Disabled, Rebuilding};
+ghost use Rattle.fsrm_model.specs.declared.row.QuotaState.TheVariants.{Rebuilding};
 ghost use Rattle.fsrm_base.specs.Keyed.{has_row, is_ascending, row_of, with_row, with_change};
 ghost use Rattle.fsrm_base.specs.Numbers.{is_in};
 ghost use Rattle.fsrm_model.specs.values.Limits.{most_quotas};
 ghost use Rattle.fsrm_model.specs.objects.Quota.{folder_of, counts, is_limit};
-ghost use Rattle.fsrm_model.specs.objects.QuotaStates.{start, queued, state_of, state_after, in_state};
+ghost use Rattle.fsrm_model.specs.objects.QuotaStates.{queued, in_state};
 ghost use Rattle.fsrm_model.specs.objects.Thresholds.{are_thresholds, is_threshold, percent_of};
 ghost use Rattle.fsrm_model.specs.nodes.Tree.{is_folder, usage};
-ghost use Rattle.fsrm_model.specs.store.Valid.{IsVolume, is_moment};
-ghost use Rattle.rescan.specs.Courses.{Scanning, Turns};
-ghost use Rattle.volume_tree.specs.Volume.{Volume};
+ghost use Rattle.fsrm_model.specs.store.Valid.{is_moment};
 ghost use Rattle.fsrm_objects.specs.Tables.{IsFault, quota_fault};
 ghost use Rattle.fsrm_engine.specs.Faults.{text_room};
-ghost use Rattle.fsrm_engine.specs.Machine.{IsSound, Turned, rows_of};
+ghost use Rattle.fsrm_engine.specs.Machine.{IsSound, Turned};
 
 use crate::parts::Parts;
-use fsrm_model::{Ledger, QuotaRow, QuotaState, Steps};
+use fsrm_model::{QuotaRow, QuotaState};
 use fsrm_objects::ObjectFault;
-use rescan::Scans;
-use volume_tree::Tree;
-
-// Has a folder's scan wait if its quota is rebuilding, and else not.
-fn requeue(scans: &mut Scans, folder: u32, state: QuotaState)
-    requires room { folder < scans.old.front.room.nodes }
-    requires few { is_in scans.old.queue folder ≡ false → length scans.old.queue < most_quotas }
-    ensures queue { scans.new.queue ≡ queued scans.old.queue folder state }
-    ensures turns { (v : Volume) → Scanning v scans.old → is_folder v.nodes folder ≡ true → Turns scans.old scans.new v }
-{
-    if state != QuotaState::Rebuilding {
-        scans.leave(folder);
-    } else if !scans.contains(folder) {
-        scans.push(folder);
-    }
-}
-
-// The state in which a folder's quota begins if it is made or enabled.
-fn start<L: Ledger>(tree: &Tree, folder: u32, steps: &mut Steps<L>) -> QuotaState
-    requires volume { IsVolume tree.now.size tree.now.nodes }
-    requires folder { is_folder tree.now.nodes folder ≡ true }
-    ensures state { result ≡ start tree.now.nodes folder }
-    ensures looks { steps.new ≤ steps.old + 1 }
-{
-    if tree.child_count(folder, steps) == 0 {
-        QuotaState::Complete
-    } else {
-        QuotaState::Rebuilding
-    }
-}
-
-/// The state of a folder's new quota.
-pub fn first_state<L: Ledger>(
-    tree: &Tree,
-    folder: u32,
-    enabled: bool,
-    steps: &mut Steps<L>,
-) -> QuotaState
-    requires volume { IsVolume tree.now.size tree.now.nodes }
-    requires folder { is_folder tree.now.nodes folder ≡ true }
-    ensures state { result ≡ (if enabled then start tree.now.nodes folder else Disabled) }
-    ensures looks { steps.new ≤ steps.old + 1 }
-{
-    if enabled {
-        start(tree, folder, steps)
-    } else {
-        QuotaState::Disabled
-    }
-}
+use fsrm_parts::requeue;
 
 impl Parts {
-    /// The state that a status asks for, if one is given, of a quota in this state.
-    pub(crate) fn state_after<L: Ledger>(
-        &self,
-        folder: u32,
-        state: QuotaState,
-        enabled: Option<bool>,
-        steps: &mut Steps<L>,
-    ) -> QuotaState
-        requires volume { IsVolume self.now.tree.size self.now.tree.nodes }
-        requires folder { is_folder self.now.tree.nodes folder ≡ true }
-        requires state { state_of (rows_of self.now) folder ≡ state }
-        ensures state { result ≡ state_after (rows_of self.now) folder enabled }
-        ensures looks { steps.new ≤ steps.old + 1 }
-    {
-        match (enabled, state) {
-            (None, _) => state,
-            (Some(false), _) => QuotaState::Disabled,
-            (Some(true), QuotaState::Disabled) => start(&self.tree, folder, steps),
-            (Some(true), _) => state,
-        }
-    }
-
     /// Puts a quota on a folder, and its scan into the queue if it is rebuilding. If it counts, nothing
     /// may be used yet. An `Err` changes nothing.
     pub(crate) fn enlist(&mut self, row: QuotaRow) -> Result<(), ObjectFault>

@@ -46,19 +46,21 @@ use Rattle.templates.specs.Held.{Held, with_auto, without_auto}
 use Rattle.thresholds.specs.Marked.{Marked}
 use Rattle.volume_tree.specs.Volume.{Volume}
 use Rattle.fsrm_engine.specs.declared.parts.Parts.{Parts}
-use Rattle.fsrm_engine.specs.Applying.{AreComing, apply_refusal, derived_bytes, derived_rows, gets_one, given_folders}
+use Rattle.fsrm_engine.specs.Applying.{AreComing, apply_refusal, derived_bytes}
+use Rattle.fsrm_parts.specs.Applying.{derived_rows, gets_one, given_folders}
 use Rattle.fsrm_engine.specs.Faults.{text_room, texts_of}
 use Rattle.fsrm_engine.specs.Machine.{Does, IsIdle, IsSound, IsWhole, Turned, ended, rows_of}
-use Rattle.fsrm_engine.specs.Places.{IsFolder}
+use Rattle.fsrm_parts.specs.Places.{IsFolder}
 use Rattle.fsrm_engine.proofs.applied.ComingRows.{bytes-coming, coming_found, derived_many, derived_texts, length-coming}
 use Rattle.fsrm_engine.proofs.applied.DerivedLaws.{bytes_are, derived_coming, template_legal, templates_ascend}
-use Rattle.fsrm_engine.proofs.applied.EligibleFolders.{passing_folders, passing_set, passing_weaker}
+use Rattle.fsrm_parts.proofs.applied.EligibleFolders.{passing_folders, passing_set, passing_weaker}
 use Rattle.fsrm_engine.proofs.settling.CalmLaws.{calm, calm_same, unused_reached}
 use Rattle.fsrm_engine.proofs.settling.EndLaws.{due_of, few_log}
-use Rattle.fsrm_engine.proofs.steps.PlaceLaws.{target_is}
-use Rattle.fsrm_engine.proofs.steps.StepLaws.{asked, done_as, due, followed_own, last_check}
+use Rattle.fsrm_parts.proofs.walks.PlaceLaws.{target_is}
+use Rattle.fsrm_engine.proofs.steps.StepLaws.{asked, done_as, due, followed_own}
+use Rattle.fsrm_parts.proofs.tables.AnswerLaws.{last_check}
 use Rattle.fsrm_engine.proofs.tables.RoomLaws.{few_texts, full_test, room_test}
-use Rattle.fsrm_engine.proofs.tables.StateLaws.{missing, on_folder}
+use Rattle.fsrm_parts.proofs.walks.FoundLaws.{missing, on_folder}
 use Rattle.fsrm_engine.proofs.tables.TurnLaws.{turned_rows}
 
 -- ---- parts whose auto-apply quotas are others

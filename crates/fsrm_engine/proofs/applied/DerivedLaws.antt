@@ -23,7 +23,8 @@ use Rattle.fsrm_model.specs.store.Valid.{IsValid, IsVolume, is_moment}
 use Rattle.fsrm_model.proofs.valid.NamesApart.{named_parts}
 use Rattle.fsrm_model.proofs.valid.TemplatesKept.{IsTemplate, template_parts}
 use Rattle.fsrm_engine.specs.declared.parts.Parts.{Parts}
-use Rattle.fsrm_engine.specs.Applying.{AreComing, derived_bytes, derived_rows, quotas_full}
+use Rattle.fsrm_engine.specs.Applying.{AreComing, derived_bytes, quotas_full}
+use Rattle.fsrm_parts.specs.Applying.{derived_rows}
 use Rattle.fsrm_engine.specs.Faults.{text_room}
 use Rattle.fsrm_engine.specs.Machine.{IsWhole, rows_of}
 use Rattle.fsrm_engine.proofs.applied.ComingRows.{derived_absent, derived_ascend, derived_folders, derived_legal, derived_many, derived_texts}

@@ -1,6 +1,6 @@
 -- A move that nothing refuses, once what moves has its quota.
-use Rattle.std.proofs.Common.{◌≡◌, ℕ, ◌≤◌, ◌==◌, Bool, true, false, List, [], ◌∷◌, length, Option, Some, None, nat_lt, refl, ap, sym, ◌∙◌, subst, arith}
-use Rattle.std.specs.Prelude.{IfSome, fold, is_some, map, option_map, option_to_list, if◌then◌else◌}
+use Rattle.std.proofs.Common.{◌≡◌, ℕ, ◌≤◌, ◌==◌, Bool, true, false, List, [], ◌∷◌, length, Option, Some, None, nat_lt, refl, ap, sym, ◌∙◌, subst, arith, ◌++◌, ◌+◌, not, ◌&&◌, suc}
+use Rattle.std.specs.Prelude.{IfSome, fold, is_some, map, option_map, option_to_list, if◌then◌else◌, flat_map}
 use Rattle.std.specs.Option.{option_and_then, option_map_or}
 use Rattle.fsrm_base.specs.Keyed.{has_row, row_of, with_row}
 use Rattle.fsrm_base.proofs.Look.{found_has, row_of-new_other}
@@ -21,62 +21,52 @@ use Rattle.fsrm_model.specs.commands.FileWork.{blocked, coming_quotas, judged_na
 use Rattle.fsrm_model.specs.objects.Quota.{exceeded, folder_of, peaked}
 use Rattle.fsrm_model.specs.objects.QuotaStates.{followed, head, same_head, scan_begun, start}
 use Rattle.fsrm_model.specs.objects.Templates.{derived, template_number, template_of}
-use Rattle.fsrm_model.specs.nodes.Tree.{number, is_folder, is_under}
+use Rattle.fsrm_model.specs.nodes.Tree.{number, is_folder, is_under, chain, under}
 use Rattle.fsrm_model.specs.objects.Scan.{unvisited_moved}
 use Rattle.fsrm_model.specs.store.Valid.{IsVolume}
 use Rattle.quota_usage.specs.declared.change.Change.{Change}
-use Rattle.rescan.specs.Courses.{Course, Goes, Turns, left}
+use Rattle.rescan.specs.Courses.{Course, Goes, Turns, left, Scanning}
 use Rattle.file_screens.specs.declared.answer.Blocked.{Blocked}
 use Rattle.file_screens.specs.Blocked.{told}
 use Rattle.file_screens.specs.Way.{is_active}
-use Rattle.volume_tree.specs.Volume.{Volume, with_place}
-use Rattle.fsrm_engine.specs.declared.moves.Moving.{Moving}
+use Rattle.volume_tree.specs.Volume.{Volume, with_place, Move as ReadyMove, move_fault}
+use Rattle.fsrm_parts.specs.declared.moves.Moving.{Moving}
 use Rattle.fsrm_engine.specs.declared.parts.Parts.{Parts}
-use Rattle.fsrm_engine.specs.Faults.{exceeded_refusal}
-use Rattle.fsrm_engine.specs.Machine.{AreCounted, IsIdle, IsSound, IsWhole, recounted, rows_of}
-use Rattle.fsrm_engine.specs.Moves.{AreMoved, IsMove, IsSourceOfMove, MayMove, change_of, judged_move}
+use Rattle.fsrm_parts.specs.Faults.{exceeded_refusal}
+use Rattle.fsrm_engine.specs.Machine.{AreCounted, IsIdle, IsSound, IsWhole, recounted, rows_of, charged_parts}
+use Rattle.fsrm_parts.specs.Moves.{AreMoved, IsSourceOfMove}
+use Rattle.fsrm_engine.specs.Moves.{IsMove, MayMove, change_of, judged_move}
 use Rattle.fsrm_engine.specs.Arrivals.{Receives, from_source, queue_given, quotas_given, source_fault}
 use Rattle.fsrm_engine.proofs.coming.MovedQuota.{coming_moved, folders_moved, given_head, moved_left}
-use Rattle.fsrm_engine.proofs.coming.SourceLaws.{given_full, moved_known, not_queued}
+use Rattle.fsrm_engine.proofs.coming.SourceLaws.{given_full, moved_known, not_queued, IsSource, source_gives, source_is}
 use Rattle.fsrm_engine.proofs.judging.NameLaws.{IsJudged, moved_judged, unblocked}
 use Rattle.fsrm_engine.proofs.operations.ChangeLaws.{IsMoved, MovesTo}
-use Rattle.fsrm_engine.proofs.operations.FollowLaws.{effect_as, move_next, move_nodes}
-use Rattle.fsrm_engine.proofs.operations.MoveKept.{moves_to, ready_apart}
+use Rattle.fsrm_engine.proofs.operations.FollowLaws.{effect_as, move_next, move_nodes, made_ready, volume_is}
+use Rattle.fsrm_engine.proofs.operations.MoveKept.{moves_to, ready_apart, from_height, left_height, move_changes, move_done, moved_fits, moved_nodes, parent_there, there_moved, to_height}
 use Rattle.fsrm_engine.proofs.operations.MoveLaws.{move_due}
 use Rattle.fsrm_engine.proofs.operations.NewLaws.{none_by, room_after}
-use Rattle.fsrm_engine.proofs.steps.PlaceLaws.{has_resolved}
-use Rattle.std.proofs.Common.{◌++◌, ◌+◌, not, ◌&&◌, suc}
-use Rattle.std.specs.Prelude.{flat_map}
-use Rattle.volume_tree.specs.Volume.{Move as ReadyMove}
-use Rattle.fsrm_engine.proofs.operations.FollowLaws.{made_ready, volume_is}
+use Rattle.fsrm_parts.proofs.walks.PlaceLaws.{has_resolved, place_depth}
 use Rattle.fsrm_model.specs.declared.row.Capacity.{Capacity}
 use Rattle.fsrm_model.specs.declared.row.QuotaState.{QuotaState}
 use Rattle.fsrm_model.specs.declared.row.ScreenRow.{ScreenRow}
 use Rattle.fsrm_model.specs.objects.DueActions.{due as due_acts, quota_acts}
 use Rattle.fsrm_model.specs.values.Limits.{latest_moment, most_actions, most_entries}
 use Rattle.fsrm_model.specs.objects.Reached.{IsReached, crossed, reached}
-use Rattle.fsrm_model.specs.nodes.Tree.{chain, under}
 use Rattle.fsrm_model.proofs.nodes.Resolves.{resolved}
 use Rattle.fsrm_model.proofs.thresholds.ReachedLaws.{reached_parts, reached_test, unreached}
 use Rattle.fsrm_model.proofs.valid.ValidLaws.{folder_has}
 use Rattle.quota_usage.specs.Charge.{Fits, IsChange, height}
-use Rattle.rescan.specs.Courses.{Scanning}
 use Rattle.thresholds.specs.Settled.{are_orderly}
-use Rattle.volume_tree.specs.Volume.{move_fault}
-use Rattle.fsrm_engine.specs.Crossing.{IsCovered}
+use Rattle.fsrm_parts.specs.Crossing.{IsCovered}
 use Rattle.fsrm_engine.specs.Due.{charged_acts}
-use Rattle.fsrm_engine.specs.Machine.{charged_parts}
 use Rattle.fsrm_engine.specs.Reporting.{name_under, screen_told}
-use Rattle.fsrm_engine.proofs.coming.SourceLaws.{IsSource, source_gives, source_is}
 use Rattle.fsrm_engine.proofs.judging.DoneLaws.{Makes}
 use Rattle.fsrm_engine.proofs.judging.JudgedLaws.{few_told}
 use Rattle.fsrm_engine.proofs.operations.ChargedLaws.{charged_due, covered_by}
 use Rattle.fsrm_engine.proofs.operations.GrowthLaws.{by_quotas}
-use Rattle.fsrm_engine.proofs.operations.MoveKept.{from_height, left_height, move_changes, move_done, moved_fits, moved_nodes, parent_there, there_moved, to_height}
 use Rattle.fsrm_engine.proofs.settling.CalmLaws.{other_reached, unused_reached}
 use Rattle.fsrm_engine.proofs.settling.EndLaws.{acts_same, due_of, few_log}
-use Rattle.fsrm_engine.proofs.settling.OrderlyQuotas.{quotas_orderly}
-use Rattle.fsrm_engine.proofs.steps.PlaceLaws.{place_depth}
+use Rattle.fsrm_parts.proofs.settling.OrderlyQuotas.{quotas_orderly}
 use Rattle.fsrm_engine.proofs.tables.StateLaws.{empty_folder, first_empty}
 use Rattle.fsrm_engine.proofs.steps.StepLaws.{asked, due, followed_rows, or_else, same_own, tree_first}
 
@@ -234,13 +224,13 @@ some_length : (quotas : List QuotaRow) (f : ℕ) (q : QuotaRow) → row_of folde
 some_length [] f q h = absurd (cc h)
 some_length (r ∷ quotas) f q h = lt_test 0 (length (r ∷ quotas)) (omega arith)
 
-pub moved_old : (p : Parts) (x : ℕ) (source : Option ℕ) (bytes : ℕ) → AreMoved p x source bytes → IsMoved p.tree.size p.tree.nodes p.objects.quotas x bytes
+pub moved_old : (p : Parts) (x : ℕ) (source : Option ℕ) (bytes : ℕ) → AreMoved p.tree.size p.tree.nodes p.objects.quotas x source bytes → IsMoved p.tree.size p.tree.nodes p.objects.quotas x bytes
 moved_old p x source bytes moved = record {
   few = moved.few;
   all = λ f q found. moved.all (or_later (is_some source) (nat_lt 0 (length p.objects.quotas)) (some_length p.objects.quotas f q found));
 }
 
-moved_new : (p : Parts) (x n : ℕ) (source : Option ℕ) (state : QuotaState) (m bytes : ℕ) → AreMoved p x source bytes → IsMoved p.tree.size p.tree.nodes (quotas_given p.objects.quotas (from_source p.templates.templates n state m source)) x bytes
+moved_new : (p : Parts) (x n : ℕ) (source : Option ℕ) (state : QuotaState) (m bytes : ℕ) → AreMoved p.tree.size p.tree.nodes p.objects.quotas x source bytes → IsMoved p.tree.size p.tree.nodes (quotas_given p.objects.quotas (from_source p.templates.templates n state m source)) x bytes
 moved_new p x n None state m bytes moved = moved_old p x None bytes moved
 moved_new p x n (Some t) state m bytes moved = record { few = moved.few; all = λ f q found. moved.all refl }
 

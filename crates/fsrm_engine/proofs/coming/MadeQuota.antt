@@ -39,7 +39,7 @@ use Rattle.rescan.proofs.queued.Queues.{left_absent}
 use Rattle.volume_tree.specs.Volume.{Volume, with_node, without_node}
 use Rattle.fsrm_engine.specs.declared.parts.Parts.{Parts}
 use Rattle.fsrm_engine.specs.Machine.{AreCounted, Does, IsIdle, IsSound, IsWhole, ended, recounted, rows_of}
-use Rattle.fsrm_engine.specs.Places.{IsPlace, IsVacant}
+use Rattle.fsrm_parts.specs.Places.{IsPlace, IsVacant}
 use Rattle.fsrm_engine.specs.Arrivals.{from_source, queue_given, quotas_given, source_fault, with_folder}
 use Rattle.fsrm_engine.proofs.coming.SourceLaws.{IsSource, given_full, not_queued, source_gives, source_is}
 use Rattle.fsrm_engine.proofs.operations.FollowLaws.{back_scans, is_made, mkdir_next, op_accepts}
@@ -47,7 +47,7 @@ use Rattle.fsrm_engine.proofs.operations.IdleLaws.{idle_made, usage_made}
 use Rattle.fsrm_engine.proofs.operations.NewLaws.{made_is, mkdir_free, room_after}
 use Rattle.fsrm_engine.proofs.settling.CalmLaws.{calm, unused_reached}
 use Rattle.fsrm_engine.proofs.settling.EndLaws.{few_log}
-use Rattle.fsrm_engine.proofs.steps.PlaceLaws.{target_is}
+use Rattle.fsrm_parts.proofs.walks.PlaceLaws.{target_is}
 use Rattle.fsrm_engine.proofs.steps.StepLaws.{done_as, due}
 use Rattle.fsrm_engine.proofs.tables.RoomLaws.{each_threshold, percents_ascend}
 use Rattle.fsrm_engine.proofs.tables.StateLaws.{empty_folder, first_empty}

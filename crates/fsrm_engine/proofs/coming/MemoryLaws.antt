@@ -9,18 +9,13 @@ use Rattle.fsrm_model.specs.objects.AutoApply.{template_for}
 use Rattle.fsrm_model.specs.nodes.FileOps.{target_folder}
 use Rattle.fsrm_model.specs.nodes.Leads.{leads_to_folder}
 use Rattle.fsrm_model.specs.nodes.Tree.{folder_part, last_name}
-use Rattle.fsrm_engine.specs.declared.moves.Moving.{Moving}
+use Rattle.fsrm_parts.specs.declared.moves.Moving.{Moving}
 use Rattle.fsrm_engine.specs.declared.parts.Parts.{Parts}
 use Rattle.fsrm_engine.specs.Machine.{rows_of}
 use Rattle.fsrm_engine.specs.Memory.{may_want_memory}
 use Rattle.fsrm_engine.specs.Moves.{IsMove}
-use Rattle.fsrm_engine.specs.Places.{IsFolder, IsPlace}
-use Rattle.fsrm_engine.proofs.steps.PlaceLaws.{leads_to_folder_is, place_folder, target_is}
-
--- what is so of an `Err`
-pub on_err : {A E P : Type 0} (r : Result A E) → P → OnErr r P
-on_err (Ok x) h = tt
-on_err (Err e) h = h
+use Rattle.fsrm_parts.specs.Places.{IsFolder, IsPlace}
+use Rattle.fsrm_parts.proofs.walks.PlaceLaws.{leads_to_folder_is, place_folder, target_is}
 
 -- and what follows from it
 pub err_with : {A E P Q : Type 0} (r : Result A E) → (P → Q) → OnErr r P → OnErr r Q

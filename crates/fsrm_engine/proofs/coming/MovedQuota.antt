@@ -30,12 +30,13 @@ use Rattle.fsrm_model.proofs.valid.ValidLaws.{folder_has}
 use Rattle.rescan.specs.Courses.{Course, Goes, Turns, left}
 use Rattle.rescan.proofs.queued.Queues.{left_absent}
 use Rattle.volume_tree.specs.Volume.{Volume}
-use Rattle.fsrm_engine.specs.Places.{IsPlace}
-use Rattle.fsrm_engine.specs.Arrivals.{from_source, moved_source, queue_given}
+use Rattle.fsrm_parts.specs.Places.{IsPlace}
+use Rattle.fsrm_engine.specs.Arrivals.{from_source, queue_given}
+use Rattle.fsrm_parts.specs.Moves.{moved_source}
 use Rattle.fsrm_engine.proofs.operations.ChangeLaws.{MovesTo}
 use Rattle.fsrm_engine.proofs.operations.FollowLaws.{move_nodes}
 use Rattle.fsrm_engine.proofs.operations.GoingLaws.{head_same}
-use Rattle.fsrm_engine.proofs.steps.PlaceLaws.{leads_to_folder_is, target_is}
+use Rattle.fsrm_parts.proofs.walks.PlaceLaws.{leads_to_folder_is, target_is}
 use Rattle.fsrm_engine.proofs.steps.StepLaws.{same_own}
 
 -- ---- which quota comes

@@ -31,7 +31,8 @@ use Rattle.fsrm_engine.specs.declared.parts.Parts.{Parts}
 use Rattle.fsrm_engine.specs.Applying.{derived_bytes}
 use Rattle.fsrm_engine.specs.Faults.{text_room, texts_of}
 use Rattle.fsrm_engine.specs.Machine.{IsWhole, rows_of}
-use Rattle.fsrm_engine.specs.Arrivals.{from_source, moved_source, source_fault}
+use Rattle.fsrm_engine.specs.Arrivals.{from_source, source_fault}
+use Rattle.fsrm_parts.specs.Moves.{moved_source}
 use Rattle.fsrm_engine.proofs.tables.RoomLaws.{few_texts, room_test}
 
 -- ---- the template

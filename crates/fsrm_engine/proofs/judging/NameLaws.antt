@@ -22,12 +22,12 @@ use Rattle.file_screens.specs.Blocked.{told}
 use Rattle.file_screens.specs.Way.{is_active}
 use Rattle.fsrm_engine.specs.declared.parts.Parts.{Parts}
 use Rattle.fsrm_engine.specs.Machine.{AreCounted, Does, IsIdle, IsSound, rows_of}
-use Rattle.fsrm_engine.specs.Places.{IsPlace}
+use Rattle.fsrm_parts.specs.Places.{IsPlace}
 use Rattle.fsrm_engine.specs.Reporting.{name_under, screen_told}
 use Rattle.fsrm_engine.specs.Screening.{Blocks, judged_screen}
 use Rattle.fsrm_engine.proofs.judging.BlockLaws.{blocked_sound, blocked_with}
 use Rattle.fsrm_engine.proofs.judging.JudgedLaws.{told_is, told_of, told_one, told_there}
-use Rattle.fsrm_engine.proofs.steps.PlaceLaws.{target_is}
+use Rattle.fsrm_parts.proofs.walks.PlaceLaws.{target_is}
 use Rattle.fsrm_engine.proofs.steps.StepLaws.{asked, due}
 
 -- ---- whose name is judged

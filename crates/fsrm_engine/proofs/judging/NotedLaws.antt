@@ -28,7 +28,7 @@ use Rattle.thresholds.specs.Settled.{SettlesScreen, are_orderly, screen_due}
 use Rattle.file_screens.specs.declared.answer.Blocked.{Blocked}
 use Rattle.file_screens.specs.Blocked.{told}
 use Rattle.fsrm_engine.specs.declared.parts.Parts.{Parts}
-use Rattle.fsrm_engine.specs.Crossing.{IsCovered}
+use Rattle.fsrm_parts.specs.Crossing.{IsCovered}
 use Rattle.fsrm_engine.specs.Machine.{AreCounted, IsCalm, charged_parts, rows_of}
 use Rattle.fsrm_engine.specs.Reporting.{Reports}
 use Rattle.fsrm_engine.specs.Screening.{NotesName, judged_screen}

@@ -20,8 +20,7 @@ use Rattle.fsrm_model.proofs.nodes.MoveLaws.{Moves, Outside, KeepsSpace, usage-m
 use Rattle.fsrm_model.proofs.nodes.RemoveLaws.{usage-removed, removed_chain}
 use Rattle.fsrm_base.proofs.Look.{found_key, found_has}
 use Rattle.fsrm_base.proofs.Order.{least_free_is}
-use Rattle.fsrm_model.proofs.nodes.Keeps.{tree_of, MayGo, removes_of, as_suc}
-use Rattle.fsrm_model.proofs.nodes.Keeps.{moves_at}
+use Rattle.fsrm_model.proofs.nodes.Keeps.{tree_of, MayGo, removes_of, as_suc, moves_at}
 use Rattle.fsrm_model.proofs.valid.ValidLaws.{folder_has}
 use Rattle.fsrm_model.proofs.nodes.Below.{above_all, each_above, usage-moved_below}
 use Rattle.fsrm_model.proofs.nodes.Climbs.{shorter, under_up, under_own}

@@ -15,9 +15,9 @@ use Rattle.quota_usage.specs.Charge.{charged_counter, exceeded_by, is_above}
 use Rattle.rescan.specs.Courses.{Course}
 use Rattle.volume_tree.specs.Volume.{Volume}
 use Rattle.fsrm_engine.specs.declared.parts.Parts.{Parts}
-use Rattle.fsrm_engine.specs.Crossing.{IsCovered}
+use Rattle.fsrm_parts.specs.Crossing.{IsCovered}
 use Rattle.fsrm_engine.specs.Due.{Refuses, charged_acts}
-use Rattle.fsrm_engine.specs.Faults.{exceeded_refusal}
+use Rattle.fsrm_parts.specs.Faults.{exceeded_refusal}
 use Rattle.fsrm_engine.specs.Machine.{AreCounted, Does, IsIdle, charged_parts, rows_of}
 use Rattle.fsrm_engine.proofs.operations.ChangeLaws.{Changes}
 use Rattle.fsrm_engine.proofs.operations.FitLaws.{counting}

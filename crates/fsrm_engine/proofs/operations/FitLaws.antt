@@ -25,11 +25,11 @@ use Rattle.quota_usage.specs.declared.change.Change.{Change}
 use Rattle.quota_usage.specs.declared.change.Counter.{Counter}
 use Rattle.quota_usage.specs.Charge.{is_above, charged, Fits}
 use Rattle.quota_usage.specs.Counters.{used_in}
-use Rattle.fsrm_engine.specs.Machine.{sums_of}
+use Rattle.fsrm_parts.specs.Sums.{sums_of}
 use Rattle.fsrm_base.proofs.RowLaws.{each, each_found, all_filter}
-use Rattle.fsrm_engine.proofs.tables.SumLaws.{shown_of, used_sums}
+use Rattle.fsrm_parts.proofs.tables.SumLaws.{shown_of, used_sums}
 use Rattle.fsrm_engine.proofs.operations.ChangeLaws.{Changes}
-use Rattle.fsrm_engine.proofs.walks.WalkLaws.{row_space, nodes_few}
+use Rattle.fsrm_parts.proofs.walks.WalkLaws.{row_space, nodes_few}
 use Rattle.rescan.proofs.counted.FitLaws.{sum_most, root_empty, usage_total}
 
 -- the space of all files, and of one more, is less than 2^64

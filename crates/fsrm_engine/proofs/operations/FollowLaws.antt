@@ -37,8 +37,8 @@ use Rattle.node_table.specs.declared.view.NodeView.{NodeView}
 use Rattle.volume_tree.specs.Volume.{Volume, Move, Shows, with_node, without_node, with_place}
 use Rattle.fsrm_engine.specs.declared.parts.Parts.{Parts}
 use Rattle.fsrm_engine.specs.Machine.{IsIdle, rows_of}
-use Rattle.fsrm_engine.specs.Places.{IsPlace}
-use Rattle.fsrm_engine.proofs.steps.PlaceLaws.{target_is}
+use Rattle.fsrm_parts.specs.Places.{IsPlace}
+use Rattle.fsrm_parts.proofs.walks.PlaceLaws.{target_is}
 use Rattle.fsrm_engine.proofs.steps.StepLaws.{Accepts, Keeps, asked, due, followed_rows, same_own, still_idle}
 
 -- the rows that a file operation leaves, table by table

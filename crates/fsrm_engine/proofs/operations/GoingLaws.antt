@@ -38,7 +38,7 @@ use Rattle.volume_tree.specs.Volume.{Volume, remove_fault, without_node}
 use Rattle.fsrm_engine.specs.declared.parts.Parts.{Parts}
 use Rattle.fsrm_engine.specs.Machine.{IsIdle, rows_of}
 use Rattle.fsrm_engine.proofs.operations.FollowLaws.{remove_queue, volume_is, effect_as}
-use Rattle.fsrm_engine.proofs.steps.PlaceLaws.{target_is}
+use Rattle.fsrm_parts.proofs.walks.PlaceLaws.{target_is}
 use Rattle.fsrm_engine.proofs.steps.StepLaws.{Accepts, Keeps, asked, due, followed_rows, still_idle}
 
 -- a node without children can be removed

@@ -33,12 +33,14 @@ use Rattle.node_table.specs.declared.view.NodeView.{NodeView}
 use Rattle.volume_tree.specs.Volume.{Volume, with_length}
 use Rattle.fsrm_engine.specs.Faults.{quota_refusal}
 use Rattle.fsrm_engine.specs.declared.parts.Parts.{Parts}
-use Rattle.fsrm_engine.specs.Machine.{rows_of, sums_of, IsCounted, AreCounted}
-use Rattle.fsrm_engine.specs.Peaks.{raised_above}
-use Rattle.fsrm_engine.specs.Places.{IsFile}
-use Rattle.fsrm_engine.proofs.steps.StepLaws.{due, last_check}
-use Rattle.fsrm_engine.proofs.steps.PlaceLaws.{target_is}
-use Rattle.fsrm_engine.proofs.tables.SumLaws.{sums_has}
+use Rattle.fsrm_engine.specs.Machine.{rows_of, IsCounted, AreCounted}
+use Rattle.fsrm_parts.specs.Sums.{sums_of}
+use Rattle.fsrm_parts.specs.Peaks.{raised_above}
+use Rattle.fsrm_parts.specs.Places.{IsFile}
+use Rattle.fsrm_engine.proofs.steps.StepLaws.{due}
+use Rattle.fsrm_parts.proofs.tables.AnswerLaws.{last_check}
+use Rattle.fsrm_parts.proofs.walks.PlaceLaws.{target_is}
+use Rattle.fsrm_parts.proofs.tables.SumLaws.{sums_has}
 use Rattle.fsrm_engine.proofs.operations.ChangeLaws.{Changes, changes_resized}
 use Rattle.fsrm_engine.proofs.operations.OverLaws.{exceeded_is}
 use Rattle.fsrm_model.proofs.valid.QuotasKept.{quotas_stay}

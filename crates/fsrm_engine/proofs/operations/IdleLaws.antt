@@ -1,24 +1,20 @@
 -- What is kept of counters if a command raises no usage: no peak rises.
 use Rattle.std.proofs.Common.{◌≡◌, ℕ, ◌+◌, ◌-◌, ◌*◌, ◌^◌, ◌<◌, ◌≤◌, ◌==◌, Bool, true, false, cond, not, List, [], ◌∷◌, length, Option, Some, None, refl, ap, sym, ◌∙◌, subst, arith}
 use Rattle.std.proofs.lemmas.Option.{same_Some}
-use Rattle.std.specs.Borrow.{Bor}
-use Rattle.std.specs.Prelude.{map, filter, is_some, if◌then◌else◌}
-use Rattle.std.specs.Option.{option_and_then, option_copied, option_map_or}
+use Rattle.std.specs.Prelude.{map, filter, if◌then◌else◌}
+use Rattle.std.specs.Option.{option_and_then, option_map_or}
 use Rattle.fsrm_model.specs.declared.command.Deed.TheVariants.{File}
 use Rattle.fsrm_model.specs.declared.command.FileOp.TheVariants.{Touch}
 use Rattle.fsrm_model.specs.declared.command.Refusal.TheVariants.{PathNotFound}
 use Rattle.fsrm_model.specs.declared.row.Capacity.{Capacity}
 use Rattle.fsrm_model.specs.declared.row.NodeRow.{NodeRow}
 use Rattle.fsrm_model.specs.declared.row.QuotaRow.{QuotaRow}
-use Rattle.fsrm_model.specs.declared.row.ScreenRow.{ScreenRow}
-use Rattle.fsrm_model.specs.declared.row.ExceptRow.{ExceptRow}
 use Rattle.fsrm_model.specs.store.Capacities.{is_capacity}
 use Rattle.fsrm_model.specs.commands.Check.{◌when◌, first}
 use Rattle.fsrm_model.specs.nodes.FileOps.{made_node, touched}
 use Rattle.fsrm_base.specs.Keyed.{row_of, has_row, is_ascending, with_row, with_change, without_row}
 use Rattle.fsrm_model.specs.values.Limits.{longest_file}
 use Rattle.fsrm_model.specs.objects.Quota.{folder_of, counts, used_of}
-use Rattle.fsrm_model.specs.objects.Screens.{screen_folder, except_folder}
 use Rattle.fsrm_model.specs.values.Space.{alloc, space}
 use Rattle.fsrm_model.specs.nodes.Tree.{number, parent_of, fresh, is_folder, is_under, is_child, children, resolve, chain, usage}
 use Rattle.fsrm_model.specs.store.Valid.{IsVolume}
@@ -26,33 +22,33 @@ use Rattle.fsrm_model.proofs.nodes.ChainLaws.{Has, usage-new}
 use Rattle.fsrm_model.proofs.nodes.ChangeLaws.{KeepsPlace, usage-change}
 use Rattle.fsrm_model.proofs.nodes.Climbs.{shorter}
 use Rattle.fsrm_model.proofs.nodes.Keeps.{tree_of, folder-new, folder-change, found_folder, MayGo, removes_of, as_suc}
-use Rattle.fsrm_base.proofs.Look.{is_some-find, found_key, found_has, has_found, row_of-without, has_row-without, none_filtered, is_some-mapped}
+use Rattle.fsrm_base.proofs.Look.{found_key, found_has, has_found, row_of-without, has_row-without, none_filtered}
 use Rattle.fsrm_base.proofs.Order.{least_free_is}
 use Rattle.fsrm_model.proofs.nodes.RemoveLaws.{usage-removed, removed_chain}
 use Rattle.fsrm_base.proofs.EditedRows.{without_absent}
 use Rattle.fsrm_model.proofs.nodes.Resolves.{resolved}
 use Rattle.fsrm_base.proofs.TestLaws.{eq_is, clash, not_true}
 use Rattle.fsrm_model.proofs.valid.ValidLaws.{folder_has, found_parent}
-use Rattle.fsrm_objects.specs.Tables.{Tables, without_except, without_quota, without_screen}
 use Rattle.quota_usage.specs.declared.change.Change.{Change}
 use Rattle.quota_usage.specs.declared.change.Counter.{Counter}
 use Rattle.quota_usage.specs.Charge.{charged, charged_counter, IsChange, Fits, height}
-use Rattle.quota_usage.specs.Counters.{counted, used_in, without_counter}
+use Rattle.quota_usage.specs.Counters.{used_in, without_counter}
 use Rattle.node_table.specs.declared.view.NodeView.{NodeView}
 use Rattle.volume_tree.specs.declared.answer.TreeFault.TheVariants.{NotEmpty}
 use Rattle.volume_tree.specs.Volume.{Volume, Shows, with_node, with_touch, without_node, remove_fault}
 use Rattle.fsrm_engine.specs.declared.parts.Parts.{Parts}
-use Rattle.fsrm_engine.specs.Machine.{rows_of, counter_of, sums_of, IsCounted, AreCounted}
-use Rattle.fsrm_engine.specs.Places.{IsFile}
+use Rattle.fsrm_engine.specs.Machine.{rows_of, IsCounted, AreCounted}
+use Rattle.fsrm_parts.specs.Sums.{counter_of, sums_of}
+use Rattle.fsrm_parts.specs.Places.{IsFile}
 use Rattle.fsrm_engine.proofs.operations.ChangeLaws.{Changes, changes_removed, not_zero}
 use Rattle.fsrm_engine.proofs.tables.CountingLaws.{counted_without}
 use Rattle.fsrm_model.proofs.valid.QuotasKept.{quotas_stay}
 use Rattle.fsrm_engine.proofs.tables.PeakLaws.{counters_charged}
-use Rattle.fsrm_engine.proofs.steps.PlaceLaws.{shown_folder}
+use Rattle.fsrm_parts.proofs.walks.PlaceLaws.{shown_folder}
 use Rattle.fsrm_base.proofs.RowLaws.{each_found, all_filter, map_same}
 use Rattle.fsrm_engine.proofs.steps.StepLaws.{due}
-use Rattle.fsrm_engine.proofs.tables.SumLaws.{shown_of, used_sums}
-use Rattle.fsrm_engine.proofs.walks.WalkLaws.{usage_small}
+use Rattle.fsrm_parts.proofs.tables.SumLaws.{shown_of, used_sums}
+use Rattle.fsrm_parts.proofs.walks.WalkLaws.{usage_small}
 
 -- a row that is left has another number, and was there
 pub record Left {X : Type 0} (key : X → ℕ) (n m : ℕ) (rows : List X) (r : X) : Type 0 where
@@ -71,43 +67,6 @@ few_at x xs ys false h = omega arith
 few_filter : {X : Type 0} (p : X → Bool) (rows : List X) → length (filter p rows) ≤ length rows
 few_filter p [] = omega arith
 few_filter p (x ∷ rows) = few_at x rows (filter p rows) (p x) (few_filter p rows)
-
--- counters and quotas that are there, and that aren't
-
-counter_test : (counters : List Counter) (n : ℕ) (o : Option ℕ) → o ≡ used_in counters n → has_row counted n counters ≡ is_some o
-counter_test counters n o e = sym (ap is_some e ∙ (is_some-mapped (λ (c : Counter). c.bytes) (row_of counted n counters) ∙ is_some-find (λ c. counted c == n) counters))
-
-pub counter_there : (counters : List Counter) (n : ℕ) (o : Option ℕ) → o ≡ used_in counters n → is_some o ≡ true → has_row counted n counters ≡ true
-counter_there counters n o e h = counter_test counters n o e ∙ h
-
-pub counter_absent : (counters : List Counter) (n : ℕ) (o : Option ℕ) → o ≡ used_in counters n → is_some o ≡ false → counters ≡ without_counter counters n
-counter_absent counters n o e h = sym (without_absent counted n counters (counter_test counters n o e ∙ h))
-
-copied : {X : Type 0} (o : Option (Bor X)) → is_some (option_copied o) ≡ is_some o
-copied None = refl
-copied (Some x) = refl
-
-pub row_test : {X : Type 0} (key : X → ℕ) (rows : List X) (n : ℕ) (o : Option (Bor X)) → option_copied o ≡ row_of key n rows → has_row key n rows ≡ is_some o
-row_test key rows n o e = sym (sym (copied o) ∙ (ap is_some e ∙ is_some-find (λ r. key r == n) rows))
-
-pub quota_there : (quotas : List QuotaRow) (n : ℕ) (o : Option (Bor QuotaRow)) → option_copied o ≡ row_of folder_of n quotas → is_some o ≡ true → has_row folder_of n quotas ≡ true
-quota_there quotas n o e h = row_test folder_of quotas n o e ∙ h
-
-pub quota_absent : (tables : Tables) (n : ℕ) (o : Option (Bor QuotaRow)) → option_copied o ≡ row_of folder_of n tables.quotas → is_some o ≡ false → tables ≡ without_quota tables n
-quota_absent tables n o e h = ap (λ qs. record tables { quotas = qs }) (sym (without_absent folder_of n tables.quotas (row_test folder_of tables.quotas n o e ∙ h)))
-
--- and screens and exceptions
-pub screen_there : (screens : List ScreenRow) (n : ℕ) (o : Option (Bor ScreenRow)) → option_copied o ≡ row_of screen_folder n screens → is_some o ≡ true → has_row screen_folder n screens ≡ true
-screen_there screens n o e h = row_test screen_folder screens n o e ∙ h
-
-pub screen_absent : (tables : Tables) (n : ℕ) (o : Option (Bor ScreenRow)) → option_copied o ≡ row_of screen_folder n tables.screens → is_some o ≡ false → tables ≡ without_screen tables n
-screen_absent tables n o e h = ap (λ ss. record tables { screens = ss }) (sym (without_absent screen_folder n tables.screens (row_test screen_folder tables.screens n o e ∙ h)))
-
-pub except_there : (excepts : List ExceptRow) (n : ℕ) (o : Option (Bor ExceptRow)) → option_copied o ≡ row_of except_folder n excepts → is_some o ≡ true → has_row except_folder n excepts ≡ true
-except_there excepts n o e h = row_test except_folder excepts n o e ∙ h
-
-pub except_absent : (tables : Tables) (n : ℕ) (o : Option (Bor ExceptRow)) → option_copied o ≡ row_of except_folder n tables.excepts → is_some o ≡ false → tables ≡ without_except tables n
-except_absent tables n o e h = ap (λ es. record tables { excepts = es }) (sym (without_absent except_folder n tables.excepts (row_test except_folder tables.excepts n o e ∙ h)))
 
 sums_same : (K : Capacity) (nodes new : List NodeRow) (quotas : List QuotaRow) → is_ascending folder_of quotas ≡ true → ((f : ℕ) (q : QuotaRow) → row_of folder_of f quotas ≡ Some q → usage K new f ≡ usage K nodes f) → sums_of K nodes quotas ≡ sums_of K new quotas
 sums_same K nodes new quotas asc same =

@@ -17,7 +17,7 @@ use Rattle.quota_usage.specs.declared.change.Counter.{Counter}
 use Rattle.quota_usage.specs.Charge.{charged_counter}
 use Rattle.volume_tree.specs.Volume.{Volume, with_node}
 use Rattle.fsrm_engine.specs.Machine.{IsCounted}
-use Rattle.fsrm_engine.specs.Peaks.{raised_above}
+use Rattle.fsrm_parts.specs.Peaks.{raised_above}
 use Rattle.fsrm_engine.proofs.operations.ChangeLaws.{Changes, changes_made}
 use Rattle.fsrm_engine.proofs.operations.GrowthLaws.{ChargedTo, charged_at, made_folder}
 

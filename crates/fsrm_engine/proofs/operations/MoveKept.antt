@@ -24,8 +24,8 @@ use Rattle.volume_tree.specs.Volume.{Volume, with_place, is_other, move_fault}
 use Rattle.volume_tree.specs.declared.answer.TreeFault.{TreeFault}
 use Rattle.volume_tree.specs.declared.answer.TreeFault.TheVariants as fault
 use Rattle.fsrm_engine.specs.Machine.{IsCounted}
-use Rattle.fsrm_engine.specs.Peaks.{raised_above}
-use Rattle.fsrm_engine.proofs.steps.PlaceLaws.{leads_to_folder_is, target_is}
+use Rattle.fsrm_parts.specs.Peaks.{raised_above}
+use Rattle.fsrm_parts.proofs.walks.PlaceLaws.{leads_to_folder_is, target_is}
 use Rattle.fsrm_engine.proofs.operations.ChangeLaws.{Changes, IsMoved, MovesTo, changes_moved, moved_chain_to, moved_chain_from, not_zero}
 use Rattle.fsrm_engine.proofs.operations.FitLaws.{fits_moved, fits_new}
 use Rattle.fsrm_engine.proofs.operations.GrowthLaws.{ChargedTo, charged_at, placed_folder}

@@ -24,11 +24,11 @@ use Rattle.volume_tree.specs.declared.answer.TreeFault.TheVariants as fault
 use Rattle.volume_tree.specs.Volume.{Volume, is_other, move_fault, with_place}
 use Rattle.fsrm_engine.specs.declared.parts.Parts.{Parts}
 use Rattle.fsrm_engine.specs.Machine.{rows_of}
-use Rattle.fsrm_engine.specs.Faults.{refusal_of}
-use Rattle.fsrm_engine.specs.Places.{IsPlace, IsRefusedPlace}
+use Rattle.fsrm_parts.specs.Faults.{refusal_of}
+use Rattle.fsrm_parts.specs.Places.{IsPlace, IsRefusedPlace}
 use Rattle.fsrm_engine.proofs.operations.NewLaws.{room_after, two_checks}
 use Rattle.fsrm_engine.proofs.steps.StepLaws.{due, or_else, tree_first}
-use Rattle.fsrm_engine.proofs.steps.PlaceLaws.{root_is, has_resolved, leads_is, target_is, leads_to_folder_is, place_leads, place_folder}
+use Rattle.fsrm_parts.proofs.walks.PlaceLaws.{root_is, has_resolved, leads_is, target_is, leads_to_folder_is, place_leads, place_folder}
 
 -- the checks that the tree makes too
 listed : (under taken long : Bool) (more : List Check) → first (None ∷ None ∷ None ∷ None ∷ (InvalidMove when under) ∷ (AlreadyExists when taken) ∷ (NamesFull when long) ∷ more) ≡ tree_first (first ((fault.InvalidMove when under) ∷ (fault.AlreadyExists when taken) ∷ (fault.NamesFull when long) ∷ [])) (first more)

@@ -19,10 +19,10 @@ use Rattle.quota_usage.specs.declared.change.Counter.{Counter}
 use Rattle.quota_usage.specs.declared.change.Exceeded.{Exceeded}
 use Rattle.quota_usage.specs.Charge.{is_above, charged, refuses_change, over_by, told_of, exceeded_by}
 use Rattle.quota_usage.specs.Counters.{used_in}
-use Rattle.fsrm_engine.specs.Faults.{exceeded_refusal}
-use Rattle.fsrm_engine.specs.Machine.{sums_of}
+use Rattle.fsrm_parts.specs.Faults.{exceeded_refusal}
+use Rattle.fsrm_parts.specs.Sums.{sums_of}
 use Rattle.fsrm_base.proofs.RowLaws.{each, each_found, filter_same, find_same, all_same, all_filter, find_has}
-use Rattle.fsrm_engine.proofs.tables.SumLaws.{used_found}
+use Rattle.fsrm_parts.proofs.tables.SumLaws.{used_found}
 use Rattle.fsrm_engine.proofs.operations.ChangeLaws.{Changes}
 use Rattle.quota_usage.proofs.Deepest.{rises_at}
 

@@ -12,7 +12,7 @@ use Rattle.volume_tree.specs.declared.answer.TreeFault.TheVariants as fault
 use Rattle.volume_tree.specs.Volume.{remove_fault}
 use Rattle.fsrm_engine.specs.declared.parts.Parts.{Parts}
 use Rattle.fsrm_engine.proofs.steps.StepLaws.{due, tree_first}
-use Rattle.fsrm_engine.proofs.steps.PlaceLaws.{root_is, leads_is, target_is}
+use Rattle.fsrm_parts.proofs.walks.PlaceLaws.{root_is, leads_is, target_is}
 
 listed : (full : Bool) → first (None ∷ None ∷ (NotEmpty when full) ∷ []) ≡ tree_first (fault.NotEmpty when full) None
 listed true = refl

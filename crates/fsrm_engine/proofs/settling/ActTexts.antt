@@ -14,7 +14,7 @@ use Rattle.fsrm_model.specs.objects.Quota.{folder_of}
 use Rattle.fsrm_model.specs.objects.Screens.{screen_folder}
 use Rattle.fsrm_model.specs.objects.Thresholds.{actions_at, percent_of}
 use Rattle.fsrm_objects.specs.Tables.{Tables}
-use Rattle.fsrm_engine.specs.Acts.{actions_in, IsActOf}
+use Rattle.fsrm_parts.specs.Acts.{actions_in, IsActOf}
 
 pub record QuotaAct (tables : Tables) (subject : Subject) (place : ℕ) : Type 0 where
   pub quota : QuotaRow

@@ -25,7 +25,7 @@ use Rattle.quota_usage.specs.declared.change.Counter.{Counter}
 use Rattle.quota_usage.specs.Counters.{used_in}
 use Rattle.thresholds.specs.Settled.{crosses}
 use Rattle.fsrm_engine.specs.declared.parts.Parts.{Parts}
-use Rattle.fsrm_engine.specs.Crossing.{used_acts}
+use Rattle.fsrm_parts.specs.Crossing.{used_acts}
 use Rattle.fsrm_engine.specs.Machine.{AreCounted, rows_of}
 use Rattle.fsrm_engine.proofs.settling.DueLaws.{WasThere, due_counted, gathered_as}
 use Rattle.fsrm_engine.proofs.settling.EndLaws.{due_of}

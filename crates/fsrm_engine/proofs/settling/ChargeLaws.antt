@@ -28,17 +28,17 @@ use Rattle.thresholds.specs.Settled.{Settles, are_orderly, crosses, has_orderly_
 use Rattle.thresholds.proofs.OrderLaws.{orderly}
 use Rattle.thresholds.proofs.SettleLaws.{settles_none}
 use Rattle.fsrm_engine.specs.declared.parts.Parts.{Parts}
-use Rattle.fsrm_engine.specs.Crossing.{Drops, IsCovered, Notes, acts_at, counted_acts, gained_acts, is_crossing, used_acts}
-use Rattle.fsrm_engine.specs.Due.{charged_acts, is_kept}
+use Rattle.fsrm_parts.specs.Crossing.{Drops, IsCovered, Notes, acts_at, counted_acts, gained_acts, is_crossing, used_acts, is_kept}
+use Rattle.fsrm_engine.specs.Due.{charged_acts}
 use Rattle.fsrm_engine.specs.Machine.{IsCalm, Ran, charged_parts}
-use Rattle.fsrm_engine.specs.Peaks.{raised_above}
+use Rattle.fsrm_parts.specs.Peaks.{raised_above}
 use Rattle.fsrm_engine.proofs.settling.CalmLaws.{AtMost, none_crosses}
 use Rattle.fsrm_engine.proofs.settling.GainLaws.{gained_are, others_none, used_charged}
 use Rattle.fsrm_engine.proofs.settling.MarkLaws.{calm_set, calm_there}
 use Rattle.fsrm_engine.proofs.settling.PlaceLaws.{by_places}
 use Rattle.quota_usage.specs.Counters.{used_in}
-use Rattle.fsrm_engine.proofs.tables.PeakLaws.{mapped_some, raised_case}
-use Rattle.fsrm_engine.proofs.tables.RaiseLaws.{none_above}
+use Rattle.fsrm_engine.proofs.tables.PeakLaws.{mapped_some}
+use Rattle.fsrm_parts.proofs.tables.RaiseLaws.{raised_case, none_above}
 
 -- ---- quotas whose peaks were raised are in order
 module _ (nodes : List NodeRow) (place : Option ℕ) (counters : List Counter) (m : ℕ) where

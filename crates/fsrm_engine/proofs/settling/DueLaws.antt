@@ -30,13 +30,13 @@ use Rattle.quota_usage.specs.declared.change.Exceeded.{Exceeded}
 use Rattle.quota_usage.specs.Counters.{used_in}
 use Rattle.thresholds.specs.Settled.{crosses}
 use Rattle.fsrm_engine.specs.declared.parts.Parts.{Parts}
-use Rattle.fsrm_engine.specs.Crossing.{counted_acts, used_acts}
+use Rattle.fsrm_parts.specs.Crossing.{counted_acts, used_acts}
 use Rattle.fsrm_engine.specs.Due.{refused_acts}
-use Rattle.fsrm_engine.specs.Faults.{exceeded_refusal}
+use Rattle.fsrm_parts.specs.Faults.{exceeded_refusal}
 use Rattle.fsrm_engine.specs.Machine.{AreCounted, rows_of}
 use Rattle.fsrm_engine.proofs.operations.IdleLaws.{used_at}
 use Rattle.fsrm_engine.proofs.settling.EndLaws.{acts_same, due_of}
-use Rattle.fsrm_engine.proofs.settling.OrderlyQuotas.{quotas_ascending}
+use Rattle.fsrm_parts.proofs.settling.OrderlyQuotas.{quotas_ascending}
 
 -- ---- what is gathered of quotas
 pub gathered_as : (f g : QuotaRow → List Act) (quotas : List QuotaRow) → AllByRecursion (λ q. f q ≡ g q) quotas → flat_map f quotas ≡ flat_map g quotas

@@ -20,8 +20,7 @@ use Rattle.quota_usage.specs.declared.change.Counter.{Counter}
 use Rattle.quota_usage.specs.Charge.{charged, charged_counter, is_above, lost_by}
 use Rattle.quota_usage.specs.Counters.{counted, used_in}
 use Rattle.thresholds.specs.Settled.{crosses, crosses_any}
-use Rattle.fsrm_engine.specs.Crossing.{IsCovered, gained_acts, is_crossing, used_acts, used_before}
-use Rattle.fsrm_engine.specs.Due.{is_kept}
+use Rattle.fsrm_parts.specs.Crossing.{IsCovered, gained_acts, is_crossing, used_acts, used_before, is_kept}
 use Rattle.fsrm_engine.proofs.settling.CalmLaws.{none_crosses}
 
 -- ---- counters that were charged

@@ -27,7 +27,7 @@ use Rattle.thresholds.specs.Marked.{Marked, act_at, are_there, waiting}
 use Rattle.thresholds.proofs.RunLaws.{quotas_none}
 use Rattle.fsrm_engine.specs.declared.parts.Parts.{Parts}
 use Rattle.fsrm_engine.specs.Due.{LeavesActs, Refuses, refused_acts}
-use Rattle.fsrm_engine.specs.Faults.{exceeded_refusal, refused_answer}
+use Rattle.fsrm_parts.specs.Faults.{exceeded_refusal, refused_answer}
 use Rattle.fsrm_engine.specs.Machine.{AreCounted, IsIdle, IsSound, Ran, ended}
 use Rattle.fsrm_engine.proofs.settling.MarkLaws.{calm_of, ran_marked}
 use Rattle.fsrm_engine.proofs.settling.OrderedActs.{has_first}

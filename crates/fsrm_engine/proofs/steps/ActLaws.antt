@@ -19,10 +19,10 @@ use Rattle.fsrm_model.specs.store.Valid.{IsValid}
 use Rattle.fsrm_model.proofs.thresholds.ActLaws.{all-append}
 use Rattle.thresholds.specs.Marked.{Marked, all_waiting, are_screen_acts, are_there, screen_act_at, screen_waiting, waiting}
 use Rattle.fsrm_engine.specs.declared.parts.Parts.{Parts}
-use Rattle.fsrm_engine.specs.Acts.{actions_in, text_in, IsActOf}
+use Rattle.fsrm_parts.specs.Acts.{actions_in, text_in, IsActOf}
 use Rattle.fsrm_engine.specs.Machine.{Machine, IsWhole, machine_of, rows_of}
 use Rattle.fsrm_engine.proofs.settling.OrderedActs.{waiting_there}
-use Rattle.fsrm_engine.proofs.settling.OrderlyQuotas.{quotas_orderly}
+use Rattle.fsrm_parts.proofs.settling.OrderlyQuotas.{quotas_orderly}
 
 -- ---- the action that an act names
 actions_same : (p : Parts) (subject : Subject) → actions_of (rows_of p) subject ≡ actions_in p.objects subject

@@ -29,12 +29,12 @@ use Rattle.fsrm_model.proofs.valid.RowsKept.{head_in}
 use Rattle.fsrm_engine.specs.declared.parts.Parts.{Parts}
 use Rattle.fsrm_engine.specs.Due.{Finishes, with_complete}
 use Rattle.fsrm_engine.specs.Machine.{AreCounted, Does, IsIdle, IsReady, IsSound, IsWhole, rows_of}
-use Rattle.fsrm_engine.specs.Peaks.{raised}
+use Rattle.fsrm_parts.specs.Peaks.{raised}
 use Rattle.fsrm_engine.proofs.settling.ChangedDue.{due_begun}
 use Rattle.fsrm_engine.proofs.settling.EndLaws.{due_of}
 use Rattle.fsrm_engine.proofs.settling.TurnedCalm.{others_same}
 use Rattle.fsrm_engine.proofs.steps.StepLaws.{Accepts, Ends, done_with, ends_with, passing_as, same_own}
-use Rattle.fsrm_engine.proofs.tables.RaiseLaws.{raised_keeps}
+use Rattle.fsrm_parts.proofs.tables.RaiseLaws.{raised_keeps}
 use Rattle.fsrm_engine.proofs.tables.RanLaws.{sound_run}
 
 -- a quota that is rebuilding doesn't count

@@ -43,7 +43,7 @@ use Rattle.volume_tree.specs.declared.answer.TreeFault.TheVariants.{AlreadyExist
 use Rattle.volume_tree.specs.Volume.{Volume}
 use Rattle.fsrm_engine.specs.declared.parts.Parts.{Parts}
 use Rattle.fsrm_engine.specs.Due.{LeavesActs, Refuses, refused_acts}
-use Rattle.fsrm_engine.specs.Faults.{refusal_of, refused_answer, exceeded_refusal}
+use Rattle.fsrm_parts.specs.Faults.{refusal_of, refused_answer, exceeded_refusal}
 use Rattle.fsrm_engine.specs.Machine.{AreMarked, Does, IsIdle, Ran, rows_of, step_of, ended}
 use Rattle.fsrm_engine.proofs.settling.EndLaws.{due_made, due_of, ended_rows, left_rows, unran}
 use Rattle.fsrm_engine.proofs.settling.MarkLaws.{idle_marked, marked_ended}
@@ -286,11 +286,6 @@ or_else (Some refusal) more = Some refusal
 
 abbrev pub tree_first : Option TreeFault → Option Refusal → Option Refusal
 tree_first fault more = or_else (option_map refusal_of fault) more
-
--- the one check that is left decides
-pub last_check : (o : Option Refusal) → first (o ∷ []) ≡ o
-last_check None = refl
-last_check (Some refusal) = refl
 
 -- none of these is by a quota
 pub tree_bare : (fault : TreeFault) → is_bare (refusal_of fault) ≡ true

@@ -24,7 +24,7 @@ use Rattle.fsrm_engine.specs.declared.parts.Parts.{Parts}
 use Rattle.fsrm_engine.specs.Machine.{AreMarked, Machine, Takes, Does, IsIdle, IsSound, IsWhole, AreCounted, machine_of, rows_of, step_of, ended}
 use Rattle.fsrm_engine.proofs.settling.MarkLaws.{idle_whole}
 use Rattle.fsrm_engine.proofs.settling.OrderedActs.{waits_as}
-use Rattle.fsrm_engine.proofs.settling.OrderlyQuotas.{quotas_orderly}
+use Rattle.fsrm_parts.proofs.settling.OrderlyQuotas.{quotas_orderly}
 use Rattle.fsrm_engine.proofs.steps.StepLaws.{cost_in_time}
 
 -- parts after their end are sound

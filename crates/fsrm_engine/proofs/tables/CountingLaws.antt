@@ -1,8 +1,8 @@
 -- Quotas that come, change and go, with their counters.
-use Rattle.std.proofs.Common.{◌≡◌, ℕ, ◌<◌, ◌≤◌, ◌==◌, Bool, true, false, cond, not, ◌||◌, ◌&&◌, ◌∷◌, inl, inr, List, [], length, Option, Some, None, nat_lt, refl, ap, sym, ◌∙◌, subst, arith}
+use Rattle.std.proofs.Common.{◌≡◌, ℕ, ◌<◌, ◌≤◌, ◌==◌, Bool, true, false, cond, not, ◌||◌, ◌&&◌, ◌∷◌, inl, inr, List, [], length, Some, None, nat_lt, refl, ap, sym, ◌∙◌, subst, arith}
 use Rattle.std.proofs.lemmas.Bool.Decides.{nat_tests}
 use Rattle.std.proofs.lemmas.Option.{same_Some}
-use Rattle.std.specs.Prelude.{map, filter, is_some, option_map, if◌then◌else◌}
+use Rattle.std.specs.Prelude.{map, is_some, if◌then◌else◌}
 use Rattle.fsrm_model.specs.declared.row.Capacity.{Capacity}
 use Rattle.fsrm_model.specs.declared.row.NodeRow.{NodeRow}
 use Rattle.fsrm_model.specs.declared.row.QuotaRow.{QuotaRow}
@@ -16,19 +16,20 @@ use Rattle.fsrm_model.specs.objects.Thresholds.{are_thresholds}
 use Rattle.fsrm_model.specs.nodes.Tree.{is_folder, usage}
 use Rattle.fsrm_model.specs.store.Valid.{AreQuotas, is_moment}
 use Rattle.fsrm_base.proofs.EditedRows.{absent_later, ascending_tail, change_absent, without_absent}
-use Rattle.fsrm_base.proofs.Look.{FoundRow, found_key, found_has, has_found, changed_found, new_found, is_some-find}
+use Rattle.fsrm_base.proofs.Look.{FoundRow, found_key, found_has, has_found, changed_found, new_found}
 use Rattle.fsrm_base.proofs.Order.{ascending-filter}
 use Rattle.fsrm_base.proofs.TestLaws.{not_true, clash, eq_is, eq_same, lt_is}
 use Rattle.quota_usage.specs.declared.change.Counter.{Counter}
 use Rattle.quota_usage.specs.Counters.{counted, used_in, with_counter, without_counter}
 use Rattle.fsrm_objects.specs.Tables.{Tables}
 use Rattle.fsrm_engine.specs.declared.parts.Parts.{Parts}
-use Rattle.fsrm_model.proofs.valid.QuotasKept.{without_found, filter_few, quotas-new, quotas-change, quotas-without}
-use Rattle.fsrm_engine.specs.Machine.{counter_of, sums_of, IsCounted, recounted}
-use Rattle.fsrm_engine.specs.Peaks.{raised}
+use Rattle.fsrm_model.proofs.valid.QuotasKept.{without_found, quotas-new, quotas-change, quotas-without}
+use Rattle.fsrm_parts.specs.Sums.{counter_of, sums_of}
+use Rattle.fsrm_engine.specs.Machine.{IsCounted, recounted}
+use Rattle.fsrm_parts.specs.Peaks.{raised}
 use Rattle.fsrm_engine.proofs.tables.PeakLaws.{peak_stays, raised_is, some_settled, counted_raised}
 use Rattle.fsrm_base.proofs.RowLaws.{change_same, each_found, map_same}
-use Rattle.fsrm_engine.proofs.tables.SumLaws.{used_found, sums_few, sums_has, sums_with, sums_without, sums_kept}
+use Rattle.fsrm_parts.proofs.tables.SumLaws.{used_found, sums_few, sums_has, sums_with, sums_without, sums_kept, counter_found, fewer, sums_more}
 
 -- a row that stands for the one before it in ascending rows
 to_front : {X : Type 0} (key : X → ℕ) (row r : X) (rows : List X) → key r ≡ key row → is_ascending key (r ∷ rows) ≡ true → with_row key row rows ≡ row ∷ rows
@@ -61,30 +62,11 @@ changed_to key n row (r ∷ rows) asc k h = at (key r == n) refl h (changed_to k
         before : (a b n : ℕ) → a ≡ n → a < b → n ≤ b
         before a b n k l = omega arith
 
--- a quota more that doesn't count
-pub sums_more : (K : Capacity) (nodes : List NodeRow) (q : QuotaRow) (quotas : List QuotaRow) → counts q ≡ false → sums_of K nodes (with_row folder_of q quotas) ≡ sums_of K nodes quotas
-sums_more K nodes q [] c = ap (λ b. map (counter_of K nodes) (cond b (q ∷ []) [])) c
-sums_more K nodes q (r ∷ rows) c = at (nat_lt (folder_of q) (folder_of r)) (counts r) refl refl (sums_more K nodes q rows c)
-  where
-    at : (b d : Bool) → nat_lt (folder_of q) (folder_of r) ≡ b → counts r ≡ d → sums_of K nodes (with_row folder_of q rows) ≡ sums_of K nodes rows → sums_of K nodes (cond (nat_lt (folder_of q) (folder_of r)) (q ∷ r ∷ rows) (r ∷ with_row folder_of q rows)) ≡ map (counter_of K nodes) (cond (counts r) (r ∷ filter counts rows) (filter counts rows))
-    at true d l e h = rw (l, c) refl
-    at false true l e h = rw (l, e) (ap (λ cs. counter_of K nodes r ∷ cs) h)
-    at false false l e h = rw (l, e) h
-
 -- Another quota in the place of a folder's: one that doesn't count, and one that counts where that didn't
 pub sums_ended : (K : Capacity) (nodes : List NodeRow) (n : ℕ) (q : QuotaRow) (quotas : List QuotaRow) → is_ascending folder_of quotas ≡ true → q.folder ≡ n → has_row folder_of n quotas ≡ true → counts q ≡ false → sums_of K nodes (with_change folder_of n (λ old. q) quotas) ≡ without_row counted n (sums_of K nodes quotas)
 sums_ended K nodes n q quotas asc k h c =
     ap (sums_of K nodes) (changed_to folder_of n q quotas asc k h)
     ∙ (sums_more K nodes q (without_row folder_of n quotas) c ∙ sums_without K nodes n quotas)
-
--- whether a folder has a counter
-pub counter_found : (counters : List Counter) (n : ℕ) (o : Option ℕ) (b : Bool) → o ≡ used_in counters n → is_some o ≡ b → has_row counted n counters ≡ b
-counter_found counters n o b h e =
-    sym (is_some-find (λ c. counted c == n) counters) ∙ (sym (mapped (row_of counted n counters)) ∙ (ap is_some (sym h) ∙ e))
-  where
-    mapped : (o : Option Counter) → is_some (option_map (λ (c : Counter). c.bytes) o) ≡ is_some o
-    mapped None = refl
-    mapped (Some c) = refl
 
 -- It does exactly where its quota counts
 pub counter_is : (K : Capacity) (nodes : List NodeRow) (n : ℕ) (q : QuotaRow) (quotas : List QuotaRow) → is_ascending folder_of quotas ≡ true → row_of folder_of n quotas ≡ Some q → has_row counted n (sums_of K nodes quotas) ≡ counts q
@@ -193,15 +175,6 @@ sums_held K nodes quotas quota old asc found same =
 pub state_is : (state : QuotaState) (n : ℕ) (quotas : List QuotaRow) (quota : QuotaRow) → is_ascending folder_of quotas ≡ true → row_of folder_of n quotas ≡ Some quota → with_change folder_of n (in_state state) quotas ≡ with_change folder_of n (λ old. in_state state quota) quotas
 state_is state n quotas quota asc found =
     change_same folder_of n (in_state state) (λ old. in_state state quota) quotas asc (λ r h. ap (in_state state) (same_Some r quota (sym h ∙ found)))
-
--- there is room for the counter of a quota that doesn't count yet
-pub fewer : {X : Type 0} (key : X → ℕ) (n : ℕ) (rows : List X) → has_row key n rows ≡ true → length (without_row key n rows) < length rows
-fewer key n [] h = cc
-fewer key n (x ∷ rows) h = at (key x == n) h (filter_few (λ r. not (key r == n)) rows) (fewer key n rows)
-  where
-    at : (b : Bool) → (b || has_row key n rows) ≡ true → length (without_row key n rows) ≤ length rows → (has_row key n rows ≡ true → length (without_row key n rows) < length rows) → length (cond (not b) (x ∷ without_row key n rows) (without_row key n rows)) < length (x ∷ rows)
-    at true h few f = omega arith
-    at false h few f = omega (arith, f h)
 
 pub room_for : {level : Bool} (K : Capacity) (nodes : List NodeRow) (quotas : List QuotaRow) (counters : List Counter) (n : ℕ) → IsCounted K nodes quotas counters level → has_row folder_of n quotas ≡ true → has_row counted n counters ≡ false → length counters < most_quotas
 room_for K nodes quotas counters n e there free =

@@ -35,11 +35,13 @@ use Rattle.fsrm_model.specs.values.Texts.{group_bytes, object_texts}
 use Rattle.fsrm_objects.specs.Tables.{Tables, texts_in}
 use Rattle.templates.specs.Held.{texts_in as template_texts}
 use Rattle.fsrm_engine.specs.declared.parts.Parts.{Parts}
-use Rattle.fsrm_engine.specs.Faults.{group_answer, group_refusal, text_room, texts_of}
+use Rattle.fsrm_parts.specs.Faults.{group_answer, group_refusal}
+use Rattle.fsrm_engine.specs.Faults.{text_room, texts_of}
 use Rattle.fsrm_engine.specs.Machine.{AreCounted, Does, IsIdle, IsSound, IsWhole, ended, rows_of}
 use Rattle.fsrm_engine.proofs.settling.CalmLaws.{calm_same}
 use Rattle.fsrm_engine.proofs.settling.EndLaws.{few_log}
-use Rattle.fsrm_engine.proofs.steps.StepLaws.{asked, done_as, due, followed_own, last_check, refused_as, told}
+use Rattle.fsrm_engine.proofs.steps.StepLaws.{asked, done_as, due, followed_own, refused_as, told}
+use Rattle.fsrm_parts.proofs.tables.AnswerLaws.{last_check}
 use Rattle.fsrm_engine.proofs.steps.WholeLaws.{sound_ended}
 use Rattle.fsrm_engine.proofs.tables.QuotaLaws.{counted_same}
 use Rattle.fsrm_engine.proofs.tables.RoomLaws.{few_texts, full_test, room_other, room_test}

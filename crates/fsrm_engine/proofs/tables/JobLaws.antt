@@ -42,16 +42,17 @@ use Rattle.fsrm_objects.specs.declared.answer.ObjectFault.TheVariants as object
 use Rattle.fsrm_objects.specs.Kept.{most_job_bytes}
 use Rattle.fsrm_objects.specs.Tables.{IsFault, Tables, job_fault, job_texts, numbered, quota_texts, screen_texts, with_job, with_job_run, without_job}
 use Rattle.fsrm_engine.specs.declared.parts.Parts.{Parts}
-use Rattle.fsrm_engine.specs.Faults.{table_answer, table_refusal, text_room, texts_of}
-use Rattle.fsrm_engine.specs.Jobs.{blank_job}
+use Rattle.fsrm_parts.specs.Faults.{table_answer, table_refusal}
+use Rattle.fsrm_engine.specs.Faults.{text_room, texts_of}
+use Rattle.fsrm_parts.specs.Jobs.{blank_job}
 use Rattle.fsrm_engine.specs.Machine.{Does, IsIdle, IsWhole, ended, rows_of}
-use Rattle.fsrm_engine.specs.Places.{IsFolder}
-use Rattle.fsrm_engine.proofs.steps.PlaceLaws.{target_is}
+use Rattle.fsrm_parts.specs.Places.{IsFolder}
+use Rattle.fsrm_parts.proofs.walks.PlaceLaws.{target_is}
 use Rattle.fsrm_engine.proofs.steps.StepLaws.{due, told_as}
 use Rattle.fsrm_engine.proofs.tables.GroupLaws.{retabled_as}
 use Rattle.fsrm_engine.proofs.tables.RoomLaws.{few_texts, full_test, room_test}
 use Rattle.fsrm_engine.proofs.tables.ScreenLaws.{refused_by}
-use Rattle.fsrm_engine.proofs.tables.StateLaws.{on_folder}
+use Rattle.fsrm_parts.proofs.walks.FoundLaws.{on_folder}
 
 -- ---- a report of a folder
 pub report_told : (p : Parts) (m : ℕ) (new : NewReport) (n : ℕ) (outcome : Outcome) (answer : Answer) → IsIdle p → p.last_moment ≤ m → IsFolder p.tree.nodes new.scope n → outcome ≡ Report (record { kind = new.kind; scope = n; filter = new.filter }) → answer ≡ record { outcome = outcome; lasting = false } → Does p p m (Reports (ReportsGenerate new)) answer

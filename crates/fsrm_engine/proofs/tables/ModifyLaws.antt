@@ -26,12 +26,13 @@ use Rattle.fsrm_objects.proofs.FaultLaws.{short_other}
 use Rattle.quota_usage.specs.Counters.{used_in}
 use Rattle.thresholds.specs.Settled.{due_in}
 use Rattle.fsrm_engine.specs.declared.parts.Parts.{Parts}
-use Rattle.fsrm_engine.specs.Faults.{table_refusal, text_room}
+use Rattle.fsrm_parts.specs.Faults.{table_refusal}
+use Rattle.fsrm_engine.specs.Faults.{text_room}
 use Rattle.fsrm_engine.specs.Machine.{AreCounted, Does, IsIdle, IsWhole, Ran, Turned, ended, rows_of}
-use Rattle.fsrm_engine.specs.Places.{IsQuotaAt}
+use Rattle.fsrm_parts.specs.Places.{IsQuotaAt}
 use Rattle.fsrm_engine.proofs.settling.ChangedDue.{due_changed}
 use Rattle.fsrm_engine.proofs.settling.TurnedCalm.{others_same, turned_nodes, turned_quotas}
-use Rattle.fsrm_engine.proofs.steps.PlaceLaws.{target_is}
+use Rattle.fsrm_parts.proofs.walks.PlaceLaws.{target_is}
 use Rattle.fsrm_engine.proofs.steps.StepLaws.{done_with}
 use Rattle.fsrm_engine.proofs.tables.CountingLaws.{put_in, put_is}
 use Rattle.fsrm_engine.proofs.tables.RoomLaws.{each_threshold, legal_thresholds, modify_due, percents_ascend}

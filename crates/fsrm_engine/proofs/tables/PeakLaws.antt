@@ -20,11 +20,13 @@ use Rattle.quota_usage.specs.declared.change.Change.{Change}
 use Rattle.quota_usage.specs.declared.change.Counter.{Counter}
 use Rattle.quota_usage.specs.Charge.{is_above, charged_counter}
 use Rattle.quota_usage.specs.Counters.{used_in}
-use Rattle.fsrm_engine.specs.Machine.{sums_of, IsCounted}
-use Rattle.fsrm_engine.specs.Peaks.{raised, raised_above}
+use Rattle.fsrm_parts.specs.Sums.{sums_of}
+use Rattle.fsrm_engine.specs.Machine.{IsCounted}
+use Rattle.fsrm_parts.specs.Peaks.{raised, raised_above}
 use Rattle.fsrm_base.proofs.RowLaws.{each_found, map_same, map_id}
-use Rattle.fsrm_engine.proofs.tables.SumLaws.{used_found, sums_kept, sums_follow}
+use Rattle.fsrm_parts.proofs.tables.SumLaws.{used_found, sums_kept, sums_follow}
 use Rattle.fsrm_engine.proofs.operations.ChangeLaws.{Changes}
+use Rattle.fsrm_parts.proofs.tables.RaiseLaws.{raised_case}
 
 -- what a raised peak keeps
 peak_case : {A : Type 0} (g : QuotaRow → A) (K : Capacity) (nodes : List NodeRow) (m : ℕ) → ((q : QuotaRow) (b : Bool) → g (cond b (record q { peak = usage K nodes q.folder; peak_at = m }) q) ≡ g q) → (q : QuotaRow) → g (peaked K nodes m q) ≡ g q
@@ -168,18 +170,6 @@ peaked_twice K nodes m q =
 -- some quotas, raised by their counters
 abbrev pub raised_some : (QuotaRow → Bool) → List Counter → ℕ → QuotaRow → QuotaRow
 raised_some p counters m q = if p q then raised counters m q else q
-
-pub raised_case : (P : QuotaRow → Type 0) (counters : List Counter) (m : ℕ) (q : QuotaRow) → P q → ((used : ℕ) → P (record q { peak = used; peak_at = m })) → (b : Bool) → P (cond b (raised counters m q) q)
-raised_case P counters m q old new false = old
-raised_case P counters m q old new true = at (used_in counters q.folder)
-  where
-    by : (used : ℕ) (b : Bool) → P (cond b (record q { peak = used; peak_at = m }) q)
-    by used true = new used
-    by used false = old
-
-    at : (o : Option ℕ) → P (option_map_or (λ used. if nat_lt q.peak used then record q { peak = used; peak_at = m } else q) o q)
-    at None = old
-    at (Some used) = by used (nat_lt q.peak used)
 
 pub some_folder : (p : QuotaRow → Bool) (counters : List Counter) (m : ℕ) (q : QuotaRow) → (raised_some p counters m q).folder ≡ q.folder
 some_folder p counters m q = raised_case (λ r. r.folder ≡ q.folder) counters m q refl (λ used. refl) (p q)

@@ -10,7 +10,7 @@ use Rattle.fsrm_model.specs.store.Valid.{AreQuotas}
 use Rattle.fsrm_model.specs.store.ValidScans.{IsQueue}
 use Rattle.fsrm_model.specs.declared.row.NodeRow.{NodeRow}
 use Rattle.fsrm_model.specs.declared.row.QuotaRow.{QuotaRow}
-use Rattle.fsrm_engine.proofs.tables.CountingLaws.{fewer}
+use Rattle.fsrm_parts.proofs.tables.SumLaws.{fewer}
 
 -- numbers that each stand once are no more than the rows among which they are
 once_few : {X : Type 0} (key : X → ℕ) (numbers : List ℕ) (rows : List X) → each_once numbers ≡ true → ((m : ℕ) → is_in numbers m ≡ true → has_row key m rows ≡ true) → length numbers ≤ length rows

@@ -29,26 +29,17 @@ use Rattle.quota_usage.specs.declared.change.Counter.{Counter}
 use Rattle.quota_usage.specs.Counters.{used_in}
 use Rattle.fsrm_engine.specs.declared.parts.Parts.{Parts}
 use Rattle.fsrm_engine.specs.Machine.{rows_of, IsCounted, IsIdle, AreCounted}
-use Rattle.fsrm_engine.specs.Places.{IsFolder, IsQuotaAt}
+use Rattle.fsrm_parts.specs.Places.{IsQuotaAt}
 use Rattle.rescan.specs.Courses.{left}
-use Rattle.fsrm_engine.proofs.steps.PlaceLaws.{target_is, leads_to_folder_is}
+use Rattle.fsrm_parts.proofs.walks.PlaceLaws.{target_is, leads_to_folder_is}
 use Rattle.fsrm_engine.proofs.steps.StepLaws.{Accepts, asked, followed_rows, keeps, same_own, still_idle}
 use Rattle.fsrm_base.proofs.RowLaws.{change_same}
-use Rattle.fsrm_engine.proofs.tables.SumLaws.{used_found, sums_kept}
+use Rattle.fsrm_parts.proofs.tables.SumLaws.{used_found, sums_kept}
 use Rattle.fsrm_engine.proofs.tables.CountingLaws.{is_moment_of, counted_changed}
 
 -- of quotas that are made so
 pub counted_same : {level : Bool} (K : Capacity) (nodes : List NodeRow) (counters : List Counter) (after set : List QuotaRow) → set ≡ after → IsCounted K nodes after counters level → IsCounted K nodes set counters level
 counted_same {level} K nodes counters after set is e = subst (λ (qs : List QuotaRow). IsCounted K nodes qs counters level) (sym is) e
-
--- the quota of a folder that a path leads to
-pub quota_found : (nodes : List NodeRow) (quotas : List QuotaRow) (path : List (List ℕ)) (n : ℕ) (quota : QuotaRow) → IsFolder nodes path n → row_of folder_of n quotas ≡ Some quota → IsQuotaAt nodes quotas path quota
-quota_found nodes quotas path n quota at found =
-    let is : n ≡ quota.folder = sym (found_key folder_of n quotas quota found) in
-    record {
-      at = subst (λ (k : ℕ). IsFolder nodes path k) is at;
-      found = subst (λ (k : ℕ). row_of folder_of k quotas ≡ Some quota) is found;
-    }
 
 -- then none of the refusals is due that commands on a quota share
 pub quota_due : (R : Rows) (path : List (List ℕ)) (quota : QuotaRow) → IsQuotaAt R.nodes R.quotas path quota → first (quota_checks R path) ≡ None

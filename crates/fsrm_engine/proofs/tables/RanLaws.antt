@@ -16,7 +16,7 @@ use Rattle.rescan.specs.Courses.{Scanning}
 use Rattle.fsrm_engine.specs.declared.parts.Parts.{Parts}
 use Rattle.fsrm_engine.specs.Machine.{AreCounted, IsCounted, IsSound, Ran, ended}
 use Rattle.fsrm_engine.proofs.tables.PeakLaws.{was}
-use Rattle.fsrm_engine.proofs.tables.SumLaws.{sums_kept}
+use Rattle.fsrm_parts.proofs.tables.SumLaws.{sums_kept}
 
 counted_ran : {level : Bool} (K : Capacity) (nodes : List NodeRow) (quotas : List QuotaRow) (counters : List Counter) (m : ℕ) (acts : List Act) → m ≤ latest_moment → IsCounted K nodes quotas counters level → IsCounted K nodes (map (run_quota m acts) quotas) counters level
 counted_ran K nodes quotas counters m acts legal e =

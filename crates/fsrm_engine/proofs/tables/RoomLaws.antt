@@ -37,11 +37,13 @@ use Rattle.file_groups.specs.Kept.{group_texts}
 use Rattle.templates.specs.Held.{texts_in as template_texts}
 use Rattle.fsrm_objects.specs.Tables.{IsFault, is_short, other_fault, job_texts, quota_fault, quota_texts, screen_texts}
 use Rattle.fsrm_engine.specs.declared.parts.Parts.{Parts}
-use Rattle.fsrm_engine.specs.Faults.{table_answer, table_refusal, text_room, texts_of}
+use Rattle.fsrm_parts.specs.Faults.{table_answer, table_refusal}
+use Rattle.fsrm_engine.specs.Faults.{text_room, texts_of}
 use Rattle.fsrm_engine.specs.Machine.{Does, IsIdle, IsWhole, rows_of}
-use Rattle.fsrm_engine.specs.Places.{IsQuotaAt}
+use Rattle.fsrm_parts.specs.Places.{IsQuotaAt}
 use Rattle.fsrm_engine.proofs.steps.StepLaws.{due, refused_as, told}
-use Rattle.fsrm_engine.proofs.tables.StateLaws.{checked, modified_to}
+use Rattle.fsrm_parts.proofs.walks.FoundLaws.{checked}
+use Rattle.fsrm_engine.proofs.tables.StateLaws.{modified_to}
 
 -- ---- what a legal row is to the tables
 short_action : (action : Action) → is_kept_action action ≡ true → is_short action ≡ true

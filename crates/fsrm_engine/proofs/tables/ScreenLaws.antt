@@ -13,7 +13,7 @@ use Rattle.fsrm_base.specs.Causes.{◌when◌, first}
 use Rattle.fsrm_base.specs.Keyed.{has_row, row_of, with_change, with_row, without_row}
 use Rattle.fsrm_base.specs.Numbers.{is_in}
 use Rattle.fsrm_base.proofs.EditedRows.{sum_by-with_row}
-use Rattle.fsrm_base.proofs.Look.{found_has, found_key, is_some-find}
+use Rattle.fsrm_base.proofs.Look.{found_has, is_some-find}
 use Rattle.fsrm_base.proofs.Order.{length-with_row}
 use Rattle.fsrm_base.proofs.RowLaws.{change_same}
 use Rattle.fsrm_base.proofs.TestLaws.{both, le_is, nor, not_lt}
@@ -31,7 +31,6 @@ use Rattle.fsrm_model.specs.declared.command.ScreenDeed.TheVariants.{Add as Scre
 use Rattle.fsrm_model.specs.declared.row.Action.{Action}
 use Rattle.fsrm_model.specs.declared.row.ExceptRow.{ExceptRow}
 use Rattle.fsrm_model.specs.declared.row.GroupRow.{GroupRow}
-use Rattle.fsrm_model.specs.declared.row.NodeRow.{NodeRow}
 use Rattle.fsrm_model.specs.declared.row.Rows.{Rows}
 use Rattle.fsrm_model.specs.declared.row.ScreenRow.{ScreenRow}
 use Rattle.fsrm_model.specs.commands.Check.{Check, excepts_full, screens_full, texts_full}
@@ -52,14 +51,15 @@ use Rattle.fsrm_objects.specs.declared.answer.ObjectFault.{ObjectFault}
 use Rattle.fsrm_objects.specs.declared.answer.ObjectFault.TheVariants as object
 use Rattle.fsrm_objects.specs.Tables.{IsFault, Tables, except_fault, has_short_actions, is_short, job_texts, other_screen_fault, screen_bytes, screen_fault, screen_texts, screen_texts_at, quota_texts, with_except, with_other_screen, with_screen, without_except, without_screen}
 use Rattle.fsrm_engine.specs.declared.parts.Parts.{Parts}
-use Rattle.fsrm_engine.specs.Faults.{table_answer, table_refusal, text_room, texts_of}
+use Rattle.fsrm_parts.specs.Faults.{table_answer, table_refusal}
+use Rattle.fsrm_engine.specs.Faults.{text_room, texts_of}
 use Rattle.fsrm_engine.specs.Machine.{Does, IsIdle, IsWhole, ended, rows_of}
-use Rattle.fsrm_engine.specs.Places.{IsFolder}
-use Rattle.fsrm_engine.proofs.steps.PlaceLaws.{target_is}
+use Rattle.fsrm_parts.specs.Places.{IsFolder}
+use Rattle.fsrm_parts.proofs.walks.PlaceLaws.{target_is}
 use Rattle.fsrm_engine.proofs.steps.StepLaws.{due}
 use Rattle.fsrm_engine.proofs.tables.GroupLaws.{retabled_as}
 use Rattle.fsrm_engine.proofs.tables.RoomLaws.{fault_refusal, few_texts, full_test, refused_for_as, room_test}
-use Rattle.fsrm_engine.proofs.tables.StateLaws.{on_folder}
+use Rattle.fsrm_parts.proofs.walks.FoundLaws.{on_folder, there}
 
 -- ---- what was found
 -- the row of a folder, lent
@@ -118,13 +118,6 @@ some_groups groups (name ∷ names) some named =
     at None h = absurd (cc h)
     at (Some n) h = kept_by_all (λ numbers. (length numbers == 0) ≡ false) with_last some_last (n ∷ []) (numbers_named groups names) refl
 
--- ---- the screen of a folder that a path leads to
-abbrev there : Rows → ℕ → List Check
-there R k = (refusal.NotFound when is_none (screen_of R k)) ∷ []
-
-pub screen_missing : (R : Rows) (path : List (List ℕ)) (n : ℕ) → IsFolder R.nodes path n → screen_of R n ≡ None → first (screen_checks R path) ≡ Some refusal.NotFound
-screen_missing R path n at h = on_folder R path n (there R) at ∙ ap (λ o. first ((refusal.NotFound when is_none o) ∷ [])) h
-
 pub screen_due : (R : Rows) (path : List (List ℕ)) (screen : ScreenRow) → IsFolder R.nodes path screen.folder → row_of screen_folder screen.folder R.screens ≡ Some screen → first (screen_checks R path) ≡ None
 screen_due R path screen at found = on_folder R path screen.folder (there R) at ∙ ap (λ o. first ((refusal.NotFound when is_none o) ∷ [])) found
 
@@ -144,13 +137,6 @@ screen_bare R path r h = two_bare (not (leads_to_folder R.nodes path)) (is_none 
 
 pub screen_first : (R : Rows) (path : List (List ℕ)) (more : List Check) (r : Refusal) → first (screen_checks R path) ≡ Some r → first (screen_checks R path ++ more) ≡ Some r
 screen_first R path more r h = two_first (not (leads_to_folder R.nodes path)) (is_none (screen_of R (target R.nodes path))) more r h
-
--- what is found is at its folder
-pub found_at : (nodes : List NodeRow) (screens : List ScreenRow) (path : List (List ℕ)) (n : ℕ) (screen : ScreenRow) → IsFolder nodes path n → row_of screen_folder n screens ≡ Some screen → IsFolder nodes path screen.folder
-found_at nodes screens path n screen at found = subst (λ (k : ℕ). IsFolder nodes path k) (sym (found_key screen_folder n screens screen found)) at
-
-pub found_own : (screens : List ScreenRow) (n : ℕ) (screen : ScreenRow) → row_of screen_folder n screens ≡ Some screen → row_of screen_folder screen.folder screens ≡ Some screen
-found_own screens n screen found = subst (λ (k : ℕ). row_of screen_folder k screens ≡ Some screen) (sym (found_key screen_folder n screens screen found)) found
 
 -- ---- what the tables refuse
 -- the answer to a command that they refused, if it wasn't for want of memory

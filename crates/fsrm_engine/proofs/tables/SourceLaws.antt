@@ -36,18 +36,20 @@ use Rattle.fsrm_model.proofs.valid.TemplatesKept.{template_parts}
 use Rattle.fsrm_objects.specs.Tables.{quota_fault}
 use Rattle.fsrm_objects.proofs.FaultLaws.{admitted}
 use Rattle.fsrm_engine.specs.declared.parts.Parts.{Parts}
-use Rattle.fsrm_engine.specs.Faults.{table_refusal, text_room}
+use Rattle.fsrm_parts.specs.Faults.{table_refusal}
+use Rattle.fsrm_engine.specs.Faults.{text_room}
 use Rattle.fsrm_engine.specs.Machine.{Does, IsIdle, IsWhole, Turned, ended, rows_of}
-use Rattle.fsrm_engine.specs.Places.{IsFolder}
+use Rattle.fsrm_parts.specs.Places.{IsFolder}
 use Rattle.fsrm_engine.specs.Sources.{IsFirst, is_missing}
 use Rattle.fsrm_engine.proofs.settling.EndLaws.{few_log}
 use Rattle.fsrm_engine.proofs.settling.TurnedCalm.{calm_added}
-use Rattle.fsrm_engine.proofs.steps.PlaceLaws.{target_is}
+use Rattle.fsrm_parts.proofs.walks.PlaceLaws.{target_is}
 use Rattle.fsrm_engine.proofs.steps.StepLaws.{done_as, due, still_few}
 use Rattle.fsrm_engine.proofs.tables.CountingLaws.{is_moment_of}
 use Rattle.fsrm_engine.proofs.tables.ModifyLaws.{changed_folder, changed_legal, changed_percents}
 use Rattle.fsrm_engine.proofs.tables.RoomLaws.{legal_thresholds, new_checks, new_is, percents_ascend}
-use Rattle.fsrm_engine.proofs.tables.StateLaws.{empty_folder, first_empty, on_folder}
+use Rattle.fsrm_engine.proofs.tables.StateLaws.{empty_folder, first_empty}
+use Rattle.fsrm_parts.proofs.walks.FoundLaws.{on_folder}
 use Rattle.fsrm_engine.proofs.tables.TurnLaws.{turned_accepts, turned_keeps}
 
 -- ---- the templates of a store

@@ -23,28 +23,8 @@ use Rattle.fsrm_model.specs.nodes.Tree.{node_of, is_folder, children, usage}
 use Rattle.fsrm_model.specs.store.Valid.{IsVolume}
 use Rattle.fsrm_base.proofs.TestLaws.{clash, eq_is}
 use Rattle.fsrm_model.proofs.nodes.UsageLaws.{usage_children}
-use Rattle.fsrm_engine.specs.Places.{IsFolder}
-use Rattle.fsrm_engine.proofs.steps.PlaceLaws.{target_is, leads_to_folder_is}
 use Rattle.fsrm_base.proofs.RowLaws.{change_same}
 use Rattle.rescan.proofs.followed.ChangeLaws.{change_twice}
-
--- Refusals: the path leads to no folder, or that folder has no quota
-pub missing : (nodes : List NodeRow) (path : List (List ℕ)) (more : List Check) → leads_to_folder nodes path ≡ false → first ((PathNotFound when not (leads_to_folder nodes path)) ∷ more) ≡ Some PathNotFound
-missing nodes path more h = ap (λ b. first ((PathNotFound when not b) ∷ more)) h
-
-pub on_folder : (R : Rows) (path : List (List ℕ)) (n : ℕ) (next : ℕ → List Check) → IsFolder R.nodes path n → first ((PathNotFound when not (leads_to_folder R.nodes path)) ∷ next (target R.nodes path)) ≡ first (next n)
-on_folder R path n next at =
-    ap (λ b. first ((PathNotFound when not b) ∷ next (target R.nodes path))) (leads_to_folder_is R.nodes path n at.resolved ∙ at.folder)
-    ∙ ap (λ k. first (next k)) (target_is R.nodes path n at.resolved)
-
-pub checked : (R : Rows) (path : List (List ℕ)) (n : ℕ) (b : Bool) (more : ℕ → List Check) → IsFolder R.nodes path n → is_none (quota_of R n) ≡ b → first ((PathNotFound when not (leads_to_folder R.nodes path)) ∷ (NotFound when is_none (quota_of R (target R.nodes path))) ∷ more (target R.nodes path)) ≡ (if b then Some NotFound else first (more n))
-checked R path n b more at h =
-    on_folder R path n (λ k. (NotFound when is_none (quota_of R k)) ∷ more k) at
-    ∙ (ap (λ b. first ((NotFound when b) ∷ more n)) h ∙ by_case b)
-  where
-    by_case : (b : Bool) → first ((NotFound when b) ∷ more n) ≡ (if b then Some NotFound else first (more n))
-    by_case true = refl
-    by_case false = refl
 
 -- the refusals that commands on a quota share come before others
 pub quota_first : (R : Rows) (path : List (List ℕ)) (more : List Check) (refusal : Refusal) → first (quota_checks R path) ≡ Some refusal → first (quota_checks R path ++ more) ≡ Some refusal

@@ -45,15 +45,17 @@ use Rattle.templates.specs.declared.answer.TemplateFault.TheVariants as template
 use Rattle.templates.specs.Faults.{IsFault, delete_fault, template_fault}
 use Rattle.templates.specs.Held.{Held, numbered, with_template, without_template}
 use Rattle.fsrm_engine.specs.declared.parts.Parts.{Parts}
-use Rattle.fsrm_engine.specs.Faults.{template_answer, template_refusal, text_room, texts_of}
+use Rattle.fsrm_parts.specs.Faults.{template_answer, template_refusal}
+use Rattle.fsrm_engine.specs.Faults.{text_room, texts_of}
 use Rattle.fsrm_engine.specs.Machine.{AreCounted, Does, IsCounted, IsIdle, IsSound, IsWhole, ended, rows_of}
 use Rattle.fsrm_engine.proofs.settling.CalmLaws.{calm_mapped, calm_same}
 use Rattle.fsrm_engine.proofs.settling.EndLaws.{due_of, few_log}
-use Rattle.fsrm_engine.proofs.steps.StepLaws.{Accepts, asked, done_as, due, followed_own, last_check, refused_as, told}
+use Rattle.fsrm_engine.proofs.steps.StepLaws.{Accepts, asked, done_as, due, followed_own, refused_as, told}
+use Rattle.fsrm_parts.proofs.tables.AnswerLaws.{last_check}
 use Rattle.fsrm_engine.proofs.steps.WholeLaws.{sound_ended}
 use Rattle.fsrm_engine.proofs.tables.PeakLaws.{was}
 use Rattle.fsrm_engine.proofs.tables.RoomLaws.{few_texts, full_test, room_test}
-use Rattle.fsrm_engine.proofs.tables.SumLaws.{sums_kept}
+use Rattle.fsrm_parts.proofs.tables.SumLaws.{sums_kept}
 
 -- ---- quotas that are edited, each by itself, and count as they did
 pub record IsEdit (g : QuotaRow → QuotaRow) : Type 0 where

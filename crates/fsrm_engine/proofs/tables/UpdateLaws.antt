@@ -42,9 +42,9 @@ use Rattle.templates.specs.declared.answer.TemplateFault.TheVariants as template
 use Rattle.templates.specs.Faults.{modify_fault}
 use Rattle.templates.specs.Held.{Held, reached_by, texts_in as template_texts, updated_by, with_other}
 use Rattle.fsrm_engine.specs.declared.parts.Parts.{Parts}
-use Rattle.fsrm_engine.specs.Due.{updated_acts}
-use Rattle.fsrm_engine.specs.Faults.{template_refusal, text_room, texts_of}
-use Rattle.fsrm_engine.specs.Updated.{HasNow}
+use Rattle.fsrm_parts.specs.Updated.{updated_acts, HasNow}
+use Rattle.fsrm_parts.specs.Faults.{template_refusal}
+use Rattle.fsrm_engine.specs.Faults.{text_room, texts_of}
 use Rattle.fsrm_engine.specs.Machine.{AreCounted, Does, IsCounted, IsIdle, IsWhole, Ran, ended, rows_of}
 use Rattle.fsrm_engine.proofs.settling.EndLaws.{due_of}
 use Rattle.fsrm_engine.proofs.settling.UpdatedDue.{due_updated, updated_folder}

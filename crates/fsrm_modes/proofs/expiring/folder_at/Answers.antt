@@ -1,7 +1,7 @@
 use Rattle.std.proofs.Common.{List, subst, sym}
 use Rattle.fsrm_model.specs.declared.row.NodeRow.{NodeRow}
 use Rattle.fsrm_model.specs.store.Valid.{IsVolume}
-use Rattle.fsrm_engine.proofs.steps.PlaceLaws.{has_resolved}
+use Rattle.fsrm_parts.proofs.walks.PlaceLaws.{has_resolved}
 use Rattle.fsrm_modes.proofs.expiring.folder_at.Goals as goal
 
 pub node-requires : goal.node-requires

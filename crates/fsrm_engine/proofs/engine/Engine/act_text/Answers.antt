@@ -1,5 +1,5 @@
 use Rattle.std.proofs.Common.{◌∙◌}
-use Rattle.fsrm_engine.proofs.settling.OrderlyQuotas.{quotas_orderly}
+use Rattle.fsrm_parts.proofs.settling.OrderlyQuotas.{quotas_orderly}
 use Rattle.fsrm_engine.proofs.steps.ActLaws.{is_act_of, text_seen}
 use Rattle.fsrm_engine.proofs.engine.Engine.act_text.Goals as goal
 

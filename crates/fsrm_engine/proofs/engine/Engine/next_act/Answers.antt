@@ -1,7 +1,7 @@
 use Rattle.std.proofs.Common.{ap, ◌∙◌}
 use Rattle.thresholds.specs.Marked.{Marked}
 use Rattle.fsrm_engine.specs.Machine.{Machine, machine_of}
-use Rattle.fsrm_engine.proofs.settling.OrderlyQuotas.{quotas_orderly}
+use Rattle.fsrm_parts.proofs.settling.OrderlyQuotas.{quotas_orderly}
 use Rattle.fsrm_engine.proofs.steps.ActLaws.{handed_named, handed_out, handed_rows, handed_whole}
 use Rattle.fsrm_engine.proofs.engine.Engine.next_act.Goals as goal
 

@@ -9,10 +9,12 @@ use Rattle.fsrm_model.specs.declared.row.QuotaRow.{QuotaRow}
 use Rattle.fsrm_model.specs.objects.AutoApply.{auto_folder, is_auto, auto_of}
 use Rattle.fsrm_model.proofs.commands.ValueParts.{new_autoquota_parts}
 use Rattle.templates.specs.Held.{with_auto}
-use Rattle.fsrm_engine.specs.Applying.{AreComing, IsGiven, apply_refusal, given_folders}
+use Rattle.fsrm_engine.specs.Applying.{AreComing, IsGiven, apply_refusal}
+use Rattle.fsrm_parts.specs.Applying.{given_folders}
 use Rattle.fsrm_engine.specs.Machine.{rows_of}
 use Rattle.fsrm_engine.proofs.applied.AutoLaws.{apply_bare, auto_missing, auto_taken, auto_unknown, row_added, row_coming, row_due, row_source, ruled, source_found, source_none, when_given, when_refused}
-use Rattle.fsrm_engine.proofs.coming.MemoryLaws.{folder_wants, on_err}
+use Rattle.fsrm_engine.proofs.coming.MemoryLaws.{folder_wants}
+use Rattle.fsrm_parts.proofs.tables.AnswerLaws.{on_err}
 use Rattle.fsrm_engine.proofs.steps.StepLaws.{refused_as}
 use Rattle.fsrm_engine.proofs.tables.ScreenLaws.{lent_some}
 use Rattle.fsrm_engine.proofs.parts.Parts.auto_add.Goals as goal

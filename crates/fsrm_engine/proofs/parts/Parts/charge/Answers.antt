@@ -1,6 +1,5 @@
-use Rattle.std.proofs.Common.{None, Some, ap, ◌∙◌}
+use Rattle.std.proofs.Common.{None, Some, refl}
 use Rattle.quota_usage.proofs.ChargeLaws.{left_from}
-use Rattle.thresholds.specs.Settled.{are_orderly}
 use Rattle.fsrm_engine.specs.declared.parts.Parts.{Parts}
 use Rattle.fsrm_engine.proofs.settling.ChargeLaws.{charge_none, charge_ran, still_set, still_within, tables_orderly}
 use Rattle.fsrm_engine.proofs.parts.Parts.charge.Goals as goal
@@ -22,8 +21,7 @@ drop_kept-requires-clause-quotas g c =
 pub settle_noted-requires-clause-orderly : goal.settle_noted-requires-clause-orderly
 settle_noted-requires-clause-orderly g c =
     let p = c.args.self.now in
-    ap (λ (q : Parts). are_orderly q.objects.quotas) c.drop_kept.ensures.kept
-    ∙ tables_orderly p.tree.nodes (Some c.in-Some.to) c.gain_above.new.usage c.args.moment p.objects c.gain_above.new.objects c.gain_above.ensures.quotas c.requires.quotas
+    tables_orderly p.tree.nodes (Some c.in-Some.to) c.gain_above.new.usage c.args.moment p.objects c.gain_above.new.objects c.gain_above.ensures.quotas c.requires.quotas
 
 pub settle_noted-requires-clause-noted : goal.settle_noted-requires-clause-noted
 settle_noted-requires-clause-noted g c =
@@ -31,8 +29,9 @@ settle_noted-requires-clause-noted g c =
     let change = c.args.change.now in
     let taken = c.take-minus in
     let up = c.gain_above in
-    still_set p c.drop_kept.new.self change c.in-Some.to taken.result c.args.moment taken.new.self up.new.usage up.new.objects up.new.crossing
-    c.in-Some.is (taken.ensures.lost c.in-Some.to c.in-Some.is) c.requires.calm up.ensures.counted taken.ensures.left up.ensures.quotas up.ensures.noted c.drop_kept.ensures.kept c.drop_kept.ensures.dropped
+    let mid : Parts = record p { usage = up.new.usage; objects = up.new.objects; crossing = c.drop_kept.new.crossing } in
+    still_set p mid change c.in-Some.to taken.result c.args.moment taken.new.self up.new.usage up.new.objects up.new.crossing
+    c.in-Some.is (taken.ensures.lost c.in-Some.to c.in-Some.is) c.requires.calm up.ensures.counted taken.ensures.left up.ensures.quotas up.ensures.noted refl c.drop_kept.ensures.dropped
 
 pub settle_noted-requires-clause-within : goal.settle_noted-requires-clause-within
 settle_noted-requires-clause-within g c =
@@ -40,8 +39,9 @@ settle_noted-requires-clause-within g c =
     let change = c.args.change.now in
     let taken = c.take-minus in
     let up = c.gain_above in
-    still_within p c.drop_kept.new.self change c.in-Some.to taken.result c.args.moment taken.new.self up.new.usage up.new.objects up.new.crossing
-    c.in-Some.is (taken.ensures.lost c.in-Some.to c.in-Some.is) c.requires.calm up.ensures.counted taken.ensures.left up.ensures.quotas up.ensures.noted c.drop_kept.ensures.kept c.drop_kept.ensures.dropped
+    let mid : Parts = record p { usage = up.new.usage; objects = up.new.objects; crossing = c.drop_kept.new.crossing } in
+    still_within p mid change c.in-Some.to taken.result c.args.moment taken.new.self up.new.usage up.new.objects up.new.crossing
+    c.in-Some.is (taken.ensures.lost c.in-Some.to c.in-Some.is) c.requires.calm up.ensures.counted taken.ensures.left up.ensures.quotas up.ensures.noted refl c.drop_kept.ensures.dropped
 
 pub returns-clause-charged : goal.returns-clause-charged
 returns-clause-charged g c =
@@ -49,6 +49,7 @@ returns-clause-charged g c =
     let change = c.args.change.now in
     let taken = c.take-minus in
     let up = c.gain_above in
-    charge_ran p c.drop_kept.new.self change c.in-Some.to taken.result c.args.moment taken.new.self up.new.usage up.new.objects up.new.crossing
-    c.in-Some.is (taken.ensures.lost c.in-Some.to c.in-Some.is) c.requires.calm up.ensures.counted taken.ensures.left up.ensures.quotas up.ensures.noted c.drop_kept.ensures.kept c.drop_kept.ensures.dropped
+    let mid : Parts = record p { usage = up.new.usage; objects = up.new.objects; crossing = c.drop_kept.new.crossing } in
+    charge_ran p mid change c.in-Some.to taken.result c.args.moment taken.new.self up.new.usage up.new.objects up.new.crossing
+    c.in-Some.is (taken.ensures.lost c.in-Some.to c.in-Some.is) c.requires.calm up.ensures.counted taken.ensures.left up.ensures.quotas up.ensures.noted refl c.drop_kept.ensures.dropped
     c.settle_noted.new.objects c.settle_noted.new.marks c.settle_noted.new.crossing c.requires.covered c.settle_noted.ensures.settled c.settle_noted.ensures.sorted c.settle_noted.ensures.none

@@ -8,9 +8,9 @@ use Rattle.fsrm_objects.specs.Tables.{Tables}
 use Rattle.quota_usage.specs.declared.change.Counter.{Counter}
 use Rattle.fsrm_engine.specs.Due.{with_complete}
 use Rattle.fsrm_engine.specs.Machine.{recounted}
-use Rattle.fsrm_engine.specs.Peaks.{raised}
+use Rattle.fsrm_parts.specs.Peaks.{raised}
 use Rattle.fsrm_engine.proofs.tables.CountingLaws.{has_counter, room_for, completed_are, completes}
-use Rattle.fsrm_engine.proofs.tables.RaiseLaws.{raised_keeps}
+use Rattle.fsrm_parts.proofs.tables.RaiseLaws.{raised_keeps}
 use Rattle.fsrm_engine.proofs.parts.Parts.complete.Goals as goal
 
 pub begin-requires-clause-free : goal.begin-requires-clause-free

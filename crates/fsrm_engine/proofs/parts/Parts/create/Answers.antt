@@ -5,8 +5,8 @@ use Rattle.fsrm_model.proofs.valid.ValidLaws.{folder_has}
 use Rattle.volume_tree.specs.Volume.{Volume}
 use Rattle.quota_usage.specs.declared.change.Change.{Change}
 use Rattle.std.specs.Prelude.{option_map}
-use Rattle.fsrm_engine.specs.Crossing.{IsCovered}
-use Rattle.fsrm_engine.specs.Faults.{exceeded_refusal}
+use Rattle.fsrm_parts.specs.Crossing.{IsCovered}
+use Rattle.fsrm_parts.specs.Faults.{exceeded_refusal}
 use Rattle.fsrm_engine.specs.declared.parts.Parts.{Parts}
 use Rattle.fsrm_engine.specs.Machine.{charged_parts}
 use Rattle.fsrm_engine.specs.Reporting.{name_under, screen_told}
@@ -14,7 +14,7 @@ use Rattle.fsrm_engine.proofs.judging.DoneLaws.{done_named, sound_named}
 use Rattle.fsrm_engine.proofs.judging.JudgedLaws.{few_told, told_one, told_there}
 use Rattle.fsrm_engine.proofs.judging.NameLaws.{answers_it, block_sound, blocked_op, created_judged, unblocked}
 use Rattle.fsrm_engine.proofs.steps.StepLaws.{refused_as}
-use Rattle.fsrm_engine.proofs.steps.PlaceLaws.{place_depth}
+use Rattle.fsrm_parts.proofs.walks.PlaceLaws.{place_depth}
 use Rattle.fsrm_engine.proofs.operations.NewLaws.{create_free, create_refused, made_is, new_bare, none_by, some_by}
 use Rattle.fsrm_engine.proofs.operations.FitLaws.{fits_plus}
 use Rattle.fsrm_engine.proofs.operations.GrowthLaws.{by_quotas}
@@ -22,7 +22,7 @@ use Rattle.fsrm_engine.proofs.operations.MakeLaws.{make_changes, make_done, made
 use Rattle.fsrm_engine.proofs.operations.FollowLaws.{is_made, back_scans, left_back, made_length, made_chain, op_made}
 use Rattle.fsrm_engine.proofs.operations.ChargedLaws.{charged_due, covered_by, refused_op}
 use Rattle.fsrm_engine.proofs.settling.EndLaws.{few_log}
-use Rattle.fsrm_engine.proofs.settling.OrderlyQuotas.{quotas_orderly}
+use Rattle.fsrm_parts.proofs.settling.OrderlyQuotas.{quotas_orderly}
 use Rattle.fsrm_engine.proofs.settling.RefuseLaws.{refused_sound, refuser_there}
 use Rattle.fsrm_engine.proofs.parts.Parts.create.Goals as goal
 

@@ -4,7 +4,8 @@ use Rattle.fsrm_model.specs.objects.Screens.{except_of, screen_of}
 use Rattle.fsrm_model.specs.commands.ScreenWork.{are_named, new_except, numbers_named, with_last}
 use Rattle.fsrm_objects.specs.Tables.{Tables}
 use Rattle.fsrm_engine.specs.Machine.{rows_of}
-use Rattle.fsrm_engine.proofs.coming.MemoryLaws.{folder_wants, on_err}
+use Rattle.fsrm_engine.proofs.coming.MemoryLaws.{folder_wants}
+use Rattle.fsrm_parts.proofs.tables.AnswerLaws.{on_err}
 use Rattle.fsrm_engine.proofs.tables.GroupLaws.{retabled_counted, retabled_ended, retabled_sound}
 use Rattle.fsrm_engine.proofs.tables.ScreenLaws.{except_added, except_unadded, found_groups, lent_some}
 use Rattle.fsrm_engine.proofs.parts.Parts.except_add.Goals as goal

@@ -1,8 +1,8 @@
 use Rattle.std.proofs.Common.{ap, length, ◌∙◌, arith}
 use Rattle.std.specs.List.{list_all}
 use Rattle.fsrm_model.specs.nodes.Tree.{is_folder}
-use Rattle.fsrm_engine.specs.Applying.{gets_one}
-use Rattle.fsrm_engine.proofs.applied.EligibleFolders.{passing_few, passing_folders}
+use Rattle.fsrm_parts.specs.Applying.{gets_one}
+use Rattle.fsrm_parts.proofs.applied.EligibleFolders.{passing_few, passing_folders}
 use Rattle.fsrm_engine.proofs.parts.Parts.given_rows.Goals as goal
 
 pub derived_rows-requires-clause-folders : goal.derived_rows-requires-clause-folders

@@ -2,11 +2,12 @@ use Rattle.std.proofs.Common.{refl, ap}
 use Rattle.fsrm_model.specs.declared.command.Deed.TheVariants.{Reports}
 use Rattle.fsrm_model.specs.declared.command.ReportsDeed.TheVariants.{Add as ReportsAdd}
 use Rattle.fsrm_objects.specs.Tables.{Tables}
-use Rattle.fsrm_engine.proofs.coming.MemoryLaws.{folder_wants, on_err}
+use Rattle.fsrm_engine.proofs.coming.MemoryLaws.{folder_wants}
+use Rattle.fsrm_parts.proofs.tables.AnswerLaws.{on_err}
 use Rattle.fsrm_engine.proofs.steps.StepLaws.{refused_as}
 use Rattle.fsrm_engine.proofs.tables.GroupLaws.{retabled_counted, retabled_ended, retabled_sound}
 use Rattle.fsrm_engine.proofs.tables.JobLaws.{job_added, job_unadded, new_short}
-use Rattle.fsrm_engine.proofs.tables.StateLaws.{missing}
+use Rattle.fsrm_parts.proofs.walks.FoundLaws.{missing}
 use Rattle.fsrm_engine.proofs.parts.Parts.job_add.Goals as goal
 
 pub returns-in_default-clause-ok : goal.returns-in_default-clause-ok

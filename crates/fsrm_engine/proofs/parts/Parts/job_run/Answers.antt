@@ -5,7 +5,7 @@ use Rattle.fsrm_model.specs.declared.command.Deed.TheVariants.{Reports}
 use Rattle.fsrm_model.specs.declared.command.ReportsDeed.TheVariants.{Run as ReportsRun}
 use Rattle.fsrm_model.specs.objects.Jobs.{job_named}
 use Rattle.fsrm_objects.specs.Tables.{Tables}
-use Rattle.fsrm_engine.proofs.coming.MemoryLaws.{on_err}
+use Rattle.fsrm_parts.proofs.tables.AnswerLaws.{on_err}
 use Rattle.fsrm_engine.proofs.steps.StepLaws.{refused_as}
 use Rattle.fsrm_engine.proofs.tables.GroupLaws.{retabled_counted, retabled_ended}
 use Rattle.fsrm_engine.proofs.tables.JobLaws.{job_ran, named_there, run_missing}

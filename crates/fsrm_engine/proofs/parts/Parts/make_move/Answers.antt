@@ -7,7 +7,7 @@ use Rattle.fsrm_model.specs.nodes.Tree.{number, is_folder}
 use Rattle.volume_tree.specs.Volume.{Move as Moving, move_fault}
 use Rattle.fsrm_engine.specs.declared.parts.Parts.{Parts}
 use Rattle.fsrm_engine.proofs.coming.CarriedLaws.{carried, going, judged_is}
-use Rattle.fsrm_engine.proofs.coming.MemoryLaws.{on_err}
+use Rattle.fsrm_parts.proofs.tables.AnswerLaws.{on_err}
 use Rattle.fsrm_engine.proofs.coming.SourceLaws.{moved_known}
 use Rattle.fsrm_engine.proofs.judging.DoneLaws.{done_named, sound_named}
 use Rattle.fsrm_engine.proofs.judging.NameLaws.{answers_it}

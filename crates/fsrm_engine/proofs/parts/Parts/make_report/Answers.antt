@@ -1,10 +1,11 @@
 use Rattle.std.proofs.Common.{refl}
 use Rattle.fsrm_model.specs.declared.command.Deed.TheVariants.{Reports}
 use Rattle.fsrm_model.specs.declared.command.ReportsDeed.TheVariants.{Generate as ReportsGenerate}
-use Rattle.fsrm_engine.proofs.coming.MemoryLaws.{folder_wants, on_err}
+use Rattle.fsrm_engine.proofs.coming.MemoryLaws.{folder_wants}
+use Rattle.fsrm_parts.proofs.tables.AnswerLaws.{on_err}
 use Rattle.fsrm_engine.proofs.steps.StepLaws.{refused_as}
 use Rattle.fsrm_engine.proofs.tables.JobLaws.{report_told}
-use Rattle.fsrm_engine.proofs.tables.StateLaws.{missing}
+use Rattle.fsrm_parts.proofs.walks.FoundLaws.{missing}
 use Rattle.fsrm_engine.proofs.parts.Parts.make_report.Goals as goal
 
 pub returns-in_default-clause-ok : goal.returns-in_default-clause-ok

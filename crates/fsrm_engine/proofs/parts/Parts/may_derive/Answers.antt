@@ -2,7 +2,7 @@ use Rattle.std.proofs.Common.{ap, sym, ◌∙◌, arith}
 use Rattle.std.specs.Option.{option_copied}
 use Rattle.fsrm_model.specs.objects.Templates.{template_number}
 use Rattle.fsrm_engine.proofs.applied.DerivedLaws.{template_few}
-use Rattle.fsrm_engine.proofs.operations.IdleLaws.{row_test}
+use Rattle.fsrm_parts.proofs.tables.AbsentLaws.{row_test}
 use Rattle.fsrm_engine.proofs.parts.Parts.may_derive.Goals as goal
 
 pub unwrap-template-requires : goal.unwrap-template-requires

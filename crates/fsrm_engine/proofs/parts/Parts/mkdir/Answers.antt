@@ -2,10 +2,11 @@ use Rattle.std.proofs.Common.{ap, ◌∙◌, arith}
 use Rattle.fsrm_model.specs.declared.command.Deed.TheVariants.{File}
 use Rattle.fsrm_model.specs.declared.command.FileOp.TheVariants.{Mkdir}
 use Rattle.fsrm_engine.proofs.coming.MadeQuota.{made_as, made_due, made_follows, made_found}
-use Rattle.fsrm_engine.proofs.coming.MemoryLaws.{made_wants, on_err}
+use Rattle.fsrm_engine.proofs.coming.MemoryLaws.{made_wants}
+use Rattle.fsrm_parts.proofs.tables.AnswerLaws.{on_err}
 use Rattle.fsrm_engine.proofs.coming.SourceLaws.{source_bare}
 use Rattle.fsrm_engine.proofs.operations.NewLaws.{mkdir_due, new_bare, room_after}
-use Rattle.fsrm_engine.proofs.steps.PlaceLaws.{place_inner}
+use Rattle.fsrm_parts.proofs.walks.PlaceLaws.{place_inner}
 use Rattle.fsrm_engine.proofs.steps.StepLaws.{or_else, refused_as}
 use Rattle.fsrm_engine.proofs.steps.WholeLaws.{sound_ended}
 use Rattle.fsrm_engine.proofs.parts.Parts.mkdir.Goals as goal

@@ -3,7 +3,8 @@ use Rattle.fsrm_model.specs.declared.command.Deed.TheVariants.{File}
 use Rattle.fsrm_model.specs.declared.command.FileOp.TheVariants.{Move}
 use Rattle.fsrm_model.proofs.valid.ValidLaws.{folder_has}
 use Rattle.fsrm_engine.proofs.coming.CarriedLaws.{judged_is, moved_old, quota_due, screen_due, source_due, to_it}
-use Rattle.fsrm_engine.proofs.coming.MemoryLaws.{err_with, moved_wants, on_err}
+use Rattle.fsrm_engine.proofs.coming.MemoryLaws.{err_with, moved_wants}
+use Rattle.fsrm_parts.proofs.tables.AnswerLaws.{on_err}
 use Rattle.fsrm_engine.proofs.coming.SourceLaws.{source_bare}
 use Rattle.fsrm_engine.proofs.judging.JudgedLaws.{told_one}
 use Rattle.fsrm_engine.proofs.judging.NameLaws.{block_sound, blocked_op}
@@ -11,7 +12,7 @@ use Rattle.fsrm_engine.proofs.operations.ChargedLaws.{refused_op}
 use Rattle.fsrm_engine.proofs.operations.FollowLaws.{move_nodes}
 use Rattle.fsrm_engine.proofs.operations.MoveKept.{from_height, move_change, move_changes, move_fits, move_room, parent_there}
 use Rattle.fsrm_engine.proofs.settling.RefuseLaws.{refused_sound, refuser_there}
-use Rattle.fsrm_engine.proofs.steps.PlaceLaws.{has_resolved, place_depth}
+use Rattle.fsrm_parts.proofs.walks.PlaceLaws.{has_resolved, place_depth}
 use Rattle.fsrm_engine.proofs.steps.StepLaws.{refused_as}
 use Rattle.fsrm_engine.proofs.parts.Parts.move_path.Goals as goal
 

@@ -3,7 +3,7 @@ use Rattle.fsrm_model.specs.declared.command.Deed.TheVariants.{Template}
 use Rattle.fsrm_model.specs.declared.command.TemplateDeed.{TemplateDeed}
 use Rattle.fsrm_engine.specs.Machine.{rows_of}
 use Rattle.fsrm_engine.specs.Memory.{may_want_memory}
-use Rattle.fsrm_engine.proofs.coming.MemoryLaws.{on_err}
+use Rattle.fsrm_parts.proofs.tables.AnswerLaws.{on_err}
 use Rattle.fsrm_engine.proofs.parts.Parts.on_templates.Goals as goal
 
 pub returns-in-Add-clause-memory : goal.returns-in-Add-clause-memory

@@ -11,7 +11,8 @@ use Rattle.fsrm_objects.specs.Tables.{quota_fault}
 use Rattle.fsrm_engine.specs.declared.parts.Parts.{Parts}
 use Rattle.fsrm_engine.specs.Faults.{text_room}
 use Rattle.fsrm_engine.specs.Machine.{Does, rows_of}
-use Rattle.fsrm_engine.proofs.coming.MemoryLaws.{folder_wants, on_err}
+use Rattle.fsrm_engine.proofs.coming.MemoryLaws.{folder_wants}
+use Rattle.fsrm_parts.proofs.tables.AnswerLaws.{on_err}
 use Rattle.fsrm_engine.proofs.steps.WholeLaws.{sound_ended}
 use Rattle.fsrm_engine.proofs.tables.QueueLaws.{few_scans}
 use Rattle.fsrm_engine.proofs.tables.RoomLaws.{fault_refusal, refused_for_as}

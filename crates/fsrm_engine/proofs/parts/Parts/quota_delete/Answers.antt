@@ -5,7 +5,7 @@ use Rattle.fsrm_base.specs.Keyed.{without_row}
 use Rattle.fsrm_base.specs.Numbers.{without_number}
 use Rattle.fsrm_model.specs.objects.Quota.{folder_of}
 use Rattle.fsrm_engine.specs.Machine.{rows_of}
-use Rattle.fsrm_engine.proofs.steps.PlaceLaws.{target_is}
+use Rattle.fsrm_parts.proofs.walks.PlaceLaws.{target_is}
 use Rattle.fsrm_engine.proofs.tables.QuotaLaws.{first_bare, quota_due}
 use Rattle.fsrm_engine.proofs.steps.StepLaws.{done_as, refused_as, still_few}
 use Rattle.fsrm_engine.proofs.tables.TurnLaws.{turned, turned_accepts, turned_keeps, turned_sound}

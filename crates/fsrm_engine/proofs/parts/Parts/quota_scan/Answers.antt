@@ -11,8 +11,9 @@ use Rattle.fsrm_model.specs.objects.QuotaStates.{in_state, is_disabled, queued, 
 use Rattle.fsrm_base.specs.Keyed.{with_change}
 use Rattle.fsrm_base.proofs.Look.{found_has}
 use Rattle.fsrm_engine.specs.Machine.{rows_of}
-use Rattle.fsrm_engine.proofs.steps.PlaceLaws.{target_is}
-use Rattle.fsrm_engine.proofs.tables.StateLaws.{quota_first, checked}
+use Rattle.fsrm_parts.proofs.walks.PlaceLaws.{target_is}
+use Rattle.fsrm_engine.proofs.tables.StateLaws.{quota_first}
+use Rattle.fsrm_parts.proofs.walks.FoundLaws.{checked}
 use Rattle.fsrm_engine.proofs.steps.StepLaws.{done_as, passing_as, refused_as, still_few, still_idle}
 use Rattle.fsrm_engine.proofs.tables.QueueLaws.{few_waits}
 use Rattle.fsrm_engine.proofs.tables.QuotaLaws.{first_bare}

@@ -2,7 +2,7 @@ use Rattle.std.proofs.Common.{Some, ap, sym, ◌∙◌, arith}
 use Rattle.fsrm_base.proofs.TestLaws.{is_inner}
 use Rattle.fsrm_model.specs.texts.Text.{is_bare}
 use Rattle.fsrm_engine.proofs.operations.MoveLaws.{move_faulty, move_root, stray_due}
-use Rattle.fsrm_engine.proofs.steps.PlaceLaws.{has_resolved, place_bare, place_depth, shown_folder, shown_owner, shown_parent}
+use Rattle.fsrm_parts.proofs.walks.PlaceLaws.{has_resolved, place_bare, place_depth, shown_folder, shown_owner, shown_parent}
 use Rattle.fsrm_engine.proofs.steps.StepLaws.{tree_bare}
 use Rattle.fsrm_engine.proofs.parts.Parts.ready_move.Goals as goal
 

@@ -2,7 +2,7 @@ use Rattle.std.proofs.Common.{ℕ, None, Option, Some, true, ap, ◌∙◌, subs
 use Rattle.fsrm_model.specs.declared.command.Outcome.TheVariants.{Refused}
 use Rattle.thresholds.specs.Settled.{due_in}
 use Rattle.fsrm_engine.specs.Due.{refused_acts}
-use Rattle.fsrm_engine.specs.Faults.{refused_answer}
+use Rattle.fsrm_parts.specs.Faults.{refused_answer}
 use Rattle.fsrm_engine.specs.Machine.{Ran}
 use Rattle.fsrm_engine.proofs.settling.EndLaws.{few_log}
 use Rattle.fsrm_engine.proofs.settling.RefuseLaws.{leaves_none, leaves_some, numbers_tell, some_ran}

@@ -14,7 +14,7 @@ use Rattle.volume_tree.specs.Volume.{Volume}
 use Rattle.fsrm_engine.specs.declared.parts.Parts.{Parts}
 use Rattle.rescan.proofs.queued.Leaving.{file_children}
 use Rattle.fsrm_engine.proofs.operations.IdleLaws.{may_go, file_goes, gone_change, idle_charged, looks_at_file}
-use Rattle.fsrm_engine.proofs.steps.PlaceLaws.{has_resolved, shown_folder, target_is}
+use Rattle.fsrm_parts.proofs.walks.PlaceLaws.{has_resolved, shown_folder, target_is}
 use Rattle.fsrm_engine.proofs.operations.RemoveLaws.{remove_due, remove_root}
 use Rattle.fsrm_engine.proofs.operations.GoingLaws.{no_fault, goes_well}
 use Rattle.fsrm_engine.proofs.steps.StepLaws.{done_as, refused_as, tree_first}

@@ -6,7 +6,7 @@ use Rattle.fsrm_objects.specs.Tables.{Tables, without_except, without_jobs, with
 use Rattle.volume_tree.specs.Volume.{Volume}
 use Rattle.fsrm_engine.specs.declared.parts.Parts.{Parts}
 use Rattle.fsrm_engine.proofs.operations.IdleLaws.{may_go, idle_gone}
-use Rattle.fsrm_engine.proofs.steps.PlaceLaws.{has_resolved}
+use Rattle.fsrm_parts.proofs.walks.PlaceLaws.{has_resolved}
 use Rattle.fsrm_engine.proofs.operations.RemoveLaws.{remove_due}
 use Rattle.fsrm_engine.proofs.operations.GoingLaws.{without_objects, no_fault, full_fault, goes_well, left_queue, rmdir_accepts, next_without}
 use Rattle.fsrm_engine.proofs.steps.StepLaws.{done_as, refused_as, tree_first}

@@ -10,17 +10,17 @@ use Rattle.fsrm_model.specs.nodes.Tree.{number}
 use Rattle.fsrm_model.proofs.nodes.Resolves.{resolved}
 use Rattle.volume_tree.specs.Volume.{Volume}
 use Rattle.quota_usage.specs.declared.change.Change.{Change}
-use Rattle.fsrm_engine.specs.Crossing.{IsCovered}
-use Rattle.fsrm_engine.specs.Faults.{exceeded_refusal}
+use Rattle.fsrm_parts.specs.Crossing.{IsCovered}
+use Rattle.fsrm_parts.specs.Faults.{exceeded_refusal}
 use Rattle.fsrm_engine.specs.Machine.{charged_parts}
 use Rattle.fsrm_engine.proofs.steps.StepLaws.{done_with}
-use Rattle.fsrm_engine.proofs.steps.PlaceLaws.{shown_folder, target_is}
+use Rattle.fsrm_parts.proofs.walks.PlaceLaws.{shown_folder, target_is}
 use Rattle.fsrm_engine.proofs.operations.FitLaws.{fits_plus}
 use Rattle.fsrm_engine.proofs.operations.GrowthLaws.{resize_changes, resize_due, by_quotas, file_parent, file_height, there_resized, resized_height, resize_done}
 use Rattle.fsrm_engine.proofs.operations.FollowLaws.{goes_to, volume_is, shown_length, op_accepts}
 use Rattle.fsrm_engine.proofs.operations.ChargedLaws.{charged_due, covered_by, refused_op}
 use Rattle.fsrm_engine.proofs.settling.EndLaws.{few_log}
-use Rattle.fsrm_engine.proofs.settling.OrderlyQuotas.{quotas_orderly}
+use Rattle.fsrm_parts.proofs.settling.OrderlyQuotas.{quotas_orderly}
 use Rattle.fsrm_engine.proofs.settling.RefuseLaws.{refused_sound, refuser_there}
 use Rattle.fsrm_engine.proofs.tables.RanLaws.{counted_run, sound_run}
 use Rattle.fsrm_engine.proofs.parts.Parts.resize.Goals as goal

@@ -7,11 +7,12 @@ use Rattle.fsrm_model.specs.commands.ScreenWork.{are_named, new_screen, numbers_
 use Rattle.fsrm_model.proofs.commands.ValueParts.{new_screen_parts}
 use Rattle.fsrm_objects.specs.Tables.{Tables, has_short_actions}
 use Rattle.fsrm_engine.specs.Machine.{rows_of}
-use Rattle.fsrm_engine.proofs.coming.MemoryLaws.{folder_wants, on_err}
+use Rattle.fsrm_engine.proofs.coming.MemoryLaws.{folder_wants}
+use Rattle.fsrm_parts.proofs.tables.AnswerLaws.{on_err}
 use Rattle.fsrm_engine.proofs.steps.StepLaws.{refused_as}
 use Rattle.fsrm_engine.proofs.tables.GroupLaws.{retabled_counted, retabled_ended, retabled_sound}
 use Rattle.fsrm_engine.proofs.tables.ScreenLaws.{found_groups, lent_some, new_short, screen_added, screen_excepted, screen_taken, screen_unadded}
-use Rattle.fsrm_engine.proofs.tables.StateLaws.{missing}
+use Rattle.fsrm_parts.proofs.walks.FoundLaws.{missing}
 use Rattle.fsrm_engine.proofs.parts.Parts.screen_add.Goals as goal
 
 pub returns-in_default-clause-ok : goal.returns-in_default-clause-ok

@@ -4,7 +4,8 @@ use Rattle.fsrm_model.specs.declared.command.ScreenDeed.TheVariants.{Modify as S
 use Rattle.fsrm_model.specs.commands.ScreenWork.{are_named, changed_groups, may_be_taken, numbers_named, rescreened}
 use Rattle.fsrm_objects.specs.Tables.{Tables}
 use Rattle.fsrm_engine.specs.Machine.{rows_of}
-use Rattle.fsrm_engine.proofs.coming.MemoryLaws.{folder_wants, on_err}
+use Rattle.fsrm_engine.proofs.coming.MemoryLaws.{folder_wants}
+use Rattle.fsrm_parts.proofs.tables.AnswerLaws.{on_err}
 use Rattle.fsrm_engine.proofs.steps.StepLaws.{refused_as}
 use Rattle.fsrm_engine.proofs.tables.GroupLaws.{retabled_counted, retabled_ended, retabled_sound}
 use Rattle.fsrm_engine.proofs.tables.ScreenLaws.{found_groups, screen_bare, screen_changed, screen_first, screen_unchanged, short_still, there_still}

@@ -1,6 +1,6 @@
 use Rattle.std.proofs.Common.{refl}
 use Rattle.fsrm_engine.proofs.settling.MarkLaws.{calm_of, calm_set, calm_there}
-use Rattle.fsrm_engine.proofs.settling.OrderlyQuotas.{quotas_orderly}
+use Rattle.fsrm_parts.proofs.settling.OrderlyQuotas.{quotas_orderly}
 use Rattle.fsrm_engine.proofs.tables.RanLaws.{counted_run}
 use Rattle.fsrm_engine.proofs.parts.Parts.settle_reached.Goals as goal
 

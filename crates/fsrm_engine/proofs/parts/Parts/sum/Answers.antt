@@ -6,8 +6,8 @@ use Rattle.fsrm_model.specs.declared.command.Refusal.TheVariants.{PathNotFound}
 use Rattle.fsrm_model.specs.commands.Check.{◌when◌, first}
 use Rattle.fsrm_model.specs.nodes.Tree.{resolve, usage}
 use Rattle.fsrm_model.proofs.nodes.Resolves.{resolved}
-use Rattle.fsrm_engine.proofs.coming.MemoryLaws.{on_err}
-use Rattle.fsrm_engine.proofs.steps.PlaceLaws.{leads_to_folder_is, target_is}
+use Rattle.fsrm_parts.proofs.tables.AnswerLaws.{on_err}
+use Rattle.fsrm_parts.proofs.walks.PlaceLaws.{leads_to_folder_is, target_is}
 use Rattle.fsrm_engine.proofs.steps.StepLaws.{told_as}
 use Rattle.fsrm_engine.proofs.parts.Parts.sum.Goals as goal
 

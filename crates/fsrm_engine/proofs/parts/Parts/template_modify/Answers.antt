@@ -14,9 +14,8 @@ use Rattle.templates.specs.Faults.{modify_fault}
 use Rattle.templates.specs.Reached.{were}
 use Rattle.fsrm_model.proofs.commands.ValueParts.{template_change_parts}
 use Rattle.fsrm_engine.specs.declared.parts.Parts.{Parts}
-use Rattle.fsrm_engine.specs.Due.{updated_acts}
-use Rattle.fsrm_engine.specs.Faults.{template_refusal}
-use Rattle.fsrm_engine.specs.Updated.{HasNow}
+use Rattle.fsrm_parts.specs.Updated.{updated_acts, HasNow}
+use Rattle.fsrm_parts.specs.Faults.{template_refusal}
 use Rattle.fsrm_engine.specs.Machine.{AreCounted, Does, IsIdle, IsSound, Ran}
 use Rattle.fsrm_engine.proofs.settling.EndLaws.{few_log}
 use Rattle.fsrm_engine.proofs.steps.StepLaws.{refused_as}

@@ -8,7 +8,7 @@ use Rattle.volume_tree.specs.Volume.{Volume}
 use Rattle.fsrm_engine.specs.declared.parts.Parts.{Parts}
 use Rattle.rescan.proofs.queued.Touching.{touch_goes}
 use Rattle.fsrm_engine.proofs.operations.IdleLaws.{idle_touched, touch_due}
-use Rattle.fsrm_engine.proofs.steps.PlaceLaws.{target_is}
+use Rattle.fsrm_parts.proofs.walks.PlaceLaws.{target_is}
 use Rattle.fsrm_engine.proofs.operations.FollowLaws.{goes_to, volume_is, op_accepts}
 use Rattle.fsrm_engine.proofs.settling.CalmLaws.{calm_same}
 use Rattle.fsrm_engine.proofs.settling.EndLaws.{few_log}

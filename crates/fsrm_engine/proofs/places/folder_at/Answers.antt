@@ -1,6 +1,0 @@
-use Rattle.std.proofs.Common.{sym}
-use Rattle.fsrm_engine.proofs.steps.PlaceLaws.{has_resolved}
-use Rattle.fsrm_engine.proofs.places.folder_at.Goals as goal
-
-pub node-requires : goal.node-requires
-node-requires g c = has_resolved _ _ _ _ c.requires (sym c.in_ok-node.ensures.value)

@@ -1,4 +1,0 @@
-pub mod WalkLaws
-pub mod PathTexts
-pub mod SumLaws
-pub mod TaskLaws

@@ -1,0 +1,4 @@
+pub mod applied
+pub mod settling
+pub mod tables
+pub mod walks

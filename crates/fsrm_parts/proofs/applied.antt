@@ -1,0 +1,2 @@
+pub mod SortedNumbers
+pub mod EligibleFolders

@@ -1,0 +1,9 @@
+pub mod RaiseLaws
+pub mod GroupListLaws
+pub mod BeginLaws
+pub mod ListLaws
+pub mod SumLaws
+pub mod FlagLaws
+pub mod AnswerLaws
+pub mod AbsentLaws
+pub mod FilledLaws

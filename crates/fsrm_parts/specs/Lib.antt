@@ -1,0 +1,13 @@
+pub mod Acts
+pub mod Applying
+pub mod Peaks
+pub mod Crossing
+pub mod Faults
+pub mod Jobs
+pub mod Places
+pub mod Walk
+pub mod Tasks
+pub mod Moves
+pub mod Updated
+pub mod Filled
+pub mod Sums
