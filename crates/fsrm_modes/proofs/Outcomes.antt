@@ -24,8 +24,8 @@ use Rattle.fsrm_session.specs.declared.stop.Stop.{Stop}
 use Rattle.fsrm_session.specs.declared.stop.Stop.TheVariants.{NoMemory}
 use Rattle.fsrm_modes.proofs.Alike.{idle_goes}
 use Rattle.fsrm_session.proofs.Going.{breaks_stop, calms_full, calms_nothing}
-use Rattle.tool_commands.specs.declared.reading.LineFault.{LineFault}
-use Rattle.tool_commands.specs.declared.reading.LineFault.TheVariants.{Refused as Reason}
+use Rattle.command_words.specs.declared.fault.LineFault.{LineFault}
+use Rattle.command_words.specs.declared.fault.LineFault.TheVariants.{Refused as Reason}
 use Rattle.tool_commands.specs.LineFaults.{IsFault}
 
 pub on_ok : {T E : Type 0} {P Q : Type 0} (r : Result T E) → (P → Q) → OnOk r P → OnOk r Q

@@ -1,16 +1,5 @@
-pub mod Fronts
-pub mod Marks
-pub mod WordLengths
-pub mod LineWords
-pub mod Quotes
-pub mod Numbers
 pub mod QuoteCounts
 pub mod Lines
-pub mod LimitWords
-pub mod OptionLaws
 pub mod NamedWords
-pub mod Taken
-pub mod CommaLaws
-pub mod PatternLaws
 pub mod NeededOptions
 pub mod ReportOptions

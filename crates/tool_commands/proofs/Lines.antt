@@ -10,7 +10,7 @@ use Rattle.std.proofs.lemmas.Bool.{le-ltb}
 use Rattle.std.proofs.lemmas.Bool.Decides.{nat_tests}
 use Rattle.std.proofs.lemmas.List.{get_or-drop, length-drop}
 use Rattle.std.proofs.lemmas.List.Sums.{prefix_len-le-length}
-use Rattle.tool_commands.proofs.WordLengths.{prefix_len-after}
+use Rattle.command_words.proofs.WordLengths.{prefix_len-after}
 use Rattle.std.proofs.lemmas.Str.{IsUtf8-from_is_utf8, is_utf8-from_IsUtf8}
 use Rattle.fsrm_model.specs.declared.command.Refusal.TheVariants.{BadLine}
 use Rattle.fsrm_model.specs.lines.Line.{read_line, read_words, is_skipped}
@@ -19,9 +19,10 @@ use Rattle.fsrm_model.specs.store.Valued.{is_command}
 use Rattle.fsrm_model.proofs.lines.SpelledValues.{spelled_valid}
 use Rattle.fsrm_model.proofs.lines.SpellingLaws.{read_spells}
 use Rattle.fsrm_model.specs.lines.Words.{is_blank}
-use Rattle.tool_commands.specs.LineFaults.{IsFault, Reads, ReadsWords}
-use Rattle.tool_commands.specs.declared.reading.LineFault.{LineFault}
-use Rattle.tool_commands.specs.declared.reading.LineFault.TheVariants.{Refused, NoMemory}
+use Rattle.command_words.specs.LineFaults.{Reads}
+use Rattle.tool_commands.specs.LineFaults.{IsFault, ReadsWords}
+use Rattle.command_words.specs.declared.fault.LineFault.{LineFault}
+use Rattle.command_words.specs.declared.fault.LineFault.TheVariants.{Refused, NoMemory}
 
 -- blanks in front change nothing
 skipped-after : (line : List ℕ) → is_skipped line ≡ is_skipped (drop (prefix_len is_blank line) line)

@@ -9,10 +9,10 @@ use Rattle.fsrm_model.specs.values.Limits.{latest_moment}
 use Rattle.fsrm_model.specs.lines.Reading.{Read, ◌>>=◌, known}
 use Rattle.fsrm_model.specs.lines.Tools.{Names, named}
 use Rattle.fsrm_model.specs.lines.Words.{Word, is_closed, last_quote, parts_from, words_at}
-use Rattle.tool_commands.specs.declared.reading.LineFault.{LineFault}
-use Rattle.tool_commands.specs.declared.reading.LineFault.TheVariants.{Refused, NoMemory}
-use Rattle.tool_commands.specs.LineFaults.{Reads, ReadsWords, at_moment}
-use Rattle.tool_commands.specs.Taking.{named_by}
+use Rattle.command_words.specs.declared.fault.LineFault.{LineFault}
+use Rattle.command_words.specs.declared.fault.LineFault.TheVariants.{Refused, NoMemory}
+use Rattle.command_words.specs.LineFaults.{Reads}
+use Rattle.tool_commands.specs.LineFaults.{ReadsWords, at_moment, named_by}
 use Rattle.tool_commands.proofs.QuoteCounts.{unclosed}
 
 -- what it stands for goes on with the words that are left

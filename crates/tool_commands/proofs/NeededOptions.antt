@@ -15,9 +15,9 @@ use Rattle.fsrm_model.specs.lines.Options.{Key, path_key, limit_key, quota_type_
 use Rattle.fsrm_model.specs.lines.Reading.{Read, ◌>>=◌, known}
 use Rattle.fsrm_model.specs.lines.Tools.{ToolCommand, needs, quota_add, has_limit, new_thresholds}
 use Rattle.fsrm_model.specs.lines.Words.{Word}
-use Rattle.tool_commands.specs.declared.reading.LineFault.{LineFault}
-use Rattle.tool_commands.specs.declared.reading.LineFault.TheVariants.{Refused}
-use Rattle.tool_commands.specs.LineFaults.{Reads}
+use Rattle.command_words.specs.declared.fault.LineFault.{LineFault}
+use Rattle.command_words.specs.declared.fault.LineFault.TheVariants.{Refused}
+use Rattle.command_words.specs.LineFaults.{Reads}
 
 -- ---- the first value of an option is the first of all its values
 abbrev first_of : {X : Type 0} → List X → Option X

@@ -1,9 +1,3 @@
 pub mod LineFaults
-pub mod Lengths
-pub mod Taking
-pub mod OptionWords
-pub mod KeptLaws
 pub mod PathOption
 pub mod TaskOption
-pub mod ActionParts
-pub mod Numerals

@@ -1,23 +1,19 @@
 -- Why a line is refused.
-use Rattle.std.specs.Prelude.{◌≡◌, ℕ, Result, Ok, Err, Option, Some, None, List, [], ◌∷◌}
+use Rattle.std.specs.Prelude.{◌≡◌, ℕ, Result, Ok, Err, Option, Some, None}
 use Rattle.fsrm_model.specs.declared.command.Command.{Command}
 use Rattle.fsrm_model.specs.declared.command.Deed.{Deed}
 use Rattle.fsrm_model.specs.declared.command.Refusal.TheVariants.{BadLine}
-use Rattle.fsrm_model.specs.lines.Reading.{Read, ◌>>=◌}
+use Rattle.fsrm_model.specs.lines.Reading.{Read, ◌>>=◌, known}
+use Rattle.fsrm_model.specs.lines.Tools.{Names, named}
 use Rattle.fsrm_model.specs.lines.Words.{Word}
-use Rattle.tool_commands.specs.declared.reading.LineFault.{LineFault}
-use Rattle.tool_commands.specs.declared.reading.LineFault.TheVariants.{Refused, NoMemory}
+use Rattle.command_words.specs.declared.fault.LineFault.{LineFault}
+use Rattle.command_words.specs.declared.fault.LineFault.TheVariants.{Refused, NoMemory}
+use Rattle.command_words.specs.LineFaults.{Reads}
 
 -- a fault says that memory ran out, or is the refusal that a line reads as
 abbrev pub IsFault : LineFault → Option (Read Command) → Type 0
 IsFault (Refused refusal) read = read ≡ Some (Err refusal)
 IsFault NoMemory read = Unit {0}
-
--- a part of a line gives what it reads as, unless memory runs out
-abbrev pub Reads : {X : Type 0} → Result X LineFault → Read X → Type 0
-Reads (Ok x) read = read ≡ Ok x
-Reads (Err (Refused refusal)) read = read ≡ Err refusal
-Reads (Err NoMemory) read = Unit {0}
 
 -- a part that reads a deed of one family gives that deed, unless memory runs out
 abbrev pub ReadsIn : {X : Type 0} → (X → Deed) → Result X LineFault → Read Deed → Type 0
@@ -36,7 +32,6 @@ at_moment moment read = do
   deed ← read
   Ok (record { moment = moment; deed = deed })
 
--- no word is left, or the first that is left is refused
-abbrev pub IsLast : Result (Unit {0}) LineFault → List Word → Type 0
-IsLast (Ok done) given = given ≡ []
-IsLast (Err fault) given = (word : Word) × (words : List Word) × (given ≡ word ∷ words) × (fault ≡ Refused (BadLine word.column))
+-- what the name that a word is stands for goes on
+abbrev pub named_by : {X Y : Type 0} → Names X → Word → (X → Read Y) → Read Y
+named_by names word next = known (BadLine word.column) (named names word.text) >>= next

@@ -4,8 +4,8 @@ use Rattle.fsrm_model.specs.declared.command.Deed.{Deed}
 use Rattle.fsrm_model.specs.lines.Line.{option_words}
 use Rattle.fsrm_model.specs.lines.Tools.{of_path}
 use Rattle.fsrm_model.specs.lines.Words.{Word}
-use Rattle.tool_commands.specs.declared.reading.LineFault.{LineFault}
-use Rattle.tool_commands.specs.LineFaults.{Reads}
+use Rattle.command_words.specs.declared.fault.LineFault.{LineFault}
+use Rattle.command_words.specs.LineFaults.{Reads}
 
 -- words give a path, of which a command may make any deed that takes a path and nothing else
 abbrev pub ReadsPath : Result (List (List ℕ)) LineFault → ℕ → List Word → Type 0

@@ -2,21 +2,18 @@
 
 ghost use Rattle.fsrm_model.specs.lines.Line.{option_words, named_word};
 ghost use Rattle.fsrm_model.specs.lines.Tools.{admin_commands, admin_options};
-ghost use Rattle.tool_commands.specs.LineFaults.{Reads};
-ghost use Rattle.tool_commands.specs.Taking.{left, end};
+ghost use Rattle.command_words.specs.LineFaults.{Reads};
+ghost use Rattle.command_words.specs.Taking.{left, end};
 
-use crate::keys::RUN_LIMIT;
-use crate::options::{read_options, required};
-use crate::reading::LineFault;
-use crate::values::is_named;
-use crate::words::Words;
+use crate::keys;
+use command_words::{LineFault, Words, is_named, read_options, required};
 use fsrm_model::{AdminDeed, Deed};
 use std::alloc::Global;
 
 fn options(alloc: Global, words: &mut Words<'_>) -> Result<Deed, LineFault>
     ensures { Reads result (option_words admin_options (end words.old) (left words.old)) }
 {
-    let run_limit = read_options(alloc, RUN_LIMIT, words)?;
+    let run_limit = read_options(alloc, keys::RUN_LIMIT, words)?;
     let run_limit = required(run_limit, words)?;
     Ok(Deed::Admin(AdminDeed::Options { run_limit }))
 }

@@ -3,22 +3,19 @@
 ghost use Rattle.fsrm_model.specs.declared.command.Deed.TheVariants.{Autoquota};
 ghost use Rattle.fsrm_model.specs.lines.Line.{option_words, named_word};
 ghost use Rattle.fsrm_model.specs.lines.Tools.{auto_add, auto_commands};
+ghost use Rattle.command_words.specs.Taking.{left, end};
 ghost use Rattle.tool_commands.specs.LineFaults.{ReadsIn};
-ghost use Rattle.tool_commands.specs.Taking.{left, end};
 
-use crate::keys::{EXCLUDE, PATH, SOURCE_TEMPLATE};
-use crate::options::{read_options, required};
+use crate::keys;
 use crate::paths::path_alone;
-use crate::reading::LineFault;
-use crate::values::is_named;
-use crate::words::Words;
+use command_words::{LineFault, Words, is_named, read_options, required};
 use fsrm_model::{AutoquotaDeed, NewAutoquota};
 use std::alloc::Global;
 
 fn add(alloc: Global, words: &mut Words<'_>) -> Result<AutoquotaDeed, LineFault>
     ensures { ReadsIn (λ deed. Autoquota deed) result (option_words auto_add (end words.old) (left words.old)) }
 {
-    let options = (PATH, (SOURCE_TEMPLATE, EXCLUDE));
+    let options = (keys::PATH, (keys::SOURCE_TEMPLATE, keys::EXCLUDE));
     let (path, (template, excluded)) = read_options(alloc, options, words)?;
     let path = required(path, words)?;
     let template = required(template, words)?;

@@ -3,13 +3,11 @@
 ghost use Rattle.std.specs.Prelude.{◌≡◌, Ok, Some};
 ghost use Rattle.fsrm_model.specs.lines.Line.{mkdir_words, create_words, resize_words, touch_words, move_words, remove_words, usage_words, step_words, readers, deed_words, tool_words};
 ghost use Rattle.fsrm_model.specs.lines.Tools.{dirquota, filescrn, storrept, tools};
-ghost use Rattle.tool_commands.specs.LineFaults.{ReadsWords, at_moment};
-ghost use Rattle.tool_commands.specs.Taking.{left, end, lent_word, named_by};
+ghost use Rattle.command_words.specs.Taking.{left, end, lent_word};
+ghost use Rattle.tool_commands.specs.LineFaults.{ReadsWords, at_moment, named_by};
 
-use crate::reading::LineFault;
 use crate::tools::{dirquota, filescrn, storrept};
-use crate::values::is_named;
-use crate::words::{LentWord, Words};
+use command_words::{LentWord, LineFault, Words, is_named};
 use fsrm_model::{Command, Deed, FileOp};
 use std::alloc::Global;
 

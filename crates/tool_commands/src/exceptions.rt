@@ -3,22 +3,19 @@
 ghost use Rattle.fsrm_model.specs.declared.command.Deed.TheVariants.{Exception};
 ghost use Rattle.fsrm_model.specs.lines.Line.{option_words, named_word};
 ghost use Rattle.fsrm_model.specs.lines.Tools.{except_add, except_commands};
+ghost use Rattle.command_words.specs.Taking.{left, end};
 ghost use Rattle.tool_commands.specs.LineFaults.{ReadsIn};
-ghost use Rattle.tool_commands.specs.Taking.{left, end};
 
-use crate::keys::{ADD_FILEGROUP, PATH};
-use crate::options::{read_options, required};
+use crate::keys;
 use crate::paths::path_alone;
-use crate::reading::LineFault;
-use crate::values::is_named;
-use crate::words::Words;
+use command_words::{LineFault, Words, is_named, read_options, required};
 use fsrm_model::{ExceptionDeed, NewException};
 use std::alloc::Global;
 
 fn add(alloc: Global, words: &mut Words<'_>) -> Result<ExceptionDeed, LineFault>
     ensures { ReadsIn (λ deed. Exception deed) result (option_words except_add (end words.old) (left words.old)) }
 {
-    let (path, groups) = read_options(alloc, (PATH, ADD_FILEGROUP), words)?;
+    let (path, groups) = read_options(alloc, (keys::PATH, keys::ADD_FILEGROUP), words)?;
     let path = required(path, words)?;
     if groups.is_empty() {
         return Err(LineFault::bad_line(words.end()));

@@ -3,21 +3,18 @@
 ghost use Rattle.fsrm_model.specs.declared.command.Deed.TheVariants.{Filegroup};
 ghost use Rattle.fsrm_model.specs.lines.Line.{option_words, named_word};
 ghost use Rattle.fsrm_model.specs.lines.Tools.{group_add, group_commands, group_delete, group_modify};
+ghost use Rattle.command_words.specs.Taking.{left, end};
 ghost use Rattle.tool_commands.specs.LineFaults.{ReadsIn};
-ghost use Rattle.tool_commands.specs.Taking.{left, end};
 
-use crate::keys::{FILEGROUP, MEMBERS, NON_MEMBERS};
-use crate::options::{read_options, required};
-use crate::reading::LineFault;
-use crate::values::is_named;
-use crate::words::Words;
+use crate::keys;
+use command_words::{LineFault, Words, is_named, read_options, required};
 use fsrm_model::{FilegroupChange, FilegroupDeed, List, NewFilegroup};
 use std::alloc::Global;
 
 fn add(alloc: Global, words: &mut Words<'_>) -> Result<FilegroupDeed, LineFault>
     ensures { ReadsIn (λ deed. Filegroup deed) result (option_words group_add (end words.old) (left words.old)) }
 {
-    let options = (FILEGROUP, (MEMBERS, NON_MEMBERS));
+    let options = (keys::FILEGROUP, (keys::MEMBERS, keys::NON_MEMBERS));
     let (name, (members, non_members)) = read_options(alloc, options, words)?;
     let name = required(name, words)?;
     let members = required(members, words)?;
@@ -31,7 +28,7 @@ fn add(alloc: Global, words: &mut Words<'_>) -> Result<FilegroupDeed, LineFault>
 fn modify(alloc: Global, words: &mut Words<'_>) -> Result<FilegroupDeed, LineFault>
     ensures { ReadsIn (λ deed. Filegroup deed) result (option_words group_modify (end words.old) (left words.old)) }
 {
-    let options = (FILEGROUP, (MEMBERS, NON_MEMBERS));
+    let options = (keys::FILEGROUP, (keys::MEMBERS, keys::NON_MEMBERS));
     let (name, (members, non_members)) = read_options(alloc, options, words)?;
     let name = required(name, words)?;
     Ok(FilegroupDeed::Modify(FilegroupChange {
@@ -44,7 +41,7 @@ fn modify(alloc: Global, words: &mut Words<'_>) -> Result<FilegroupDeed, LineFau
 fn delete(alloc: Global, words: &mut Words<'_>) -> Result<FilegroupDeed, LineFault>
     ensures { ReadsIn (λ deed. Filegroup deed) result (option_words group_delete (end words.old) (left words.old)) }
 {
-    let name = read_options(alloc, FILEGROUP, words)?;
+    let name = read_options(alloc, keys::FILEGROUP, words)?;
     let name = required(name, words)?;
     Ok(FilegroupDeed::Delete { name })
 }

@@ -1,11 +1,11 @@
 //! All options of the tools' commands, a row each. The definitions have the same rows, and a command whose options had
 //! others would not be proved.
 
-use crate::forms::{
+use command_words::forms::{
     AbsolutePath, Choice, FileLength, FolderName, Limit, Members, NonMembers, Notice, Number,
     ObjectName, Pattern, Percent, ReportName, RunLimit, Schedule, ScreenAction, UpdateMode,
 };
-use crate::options::{AtMost, Once, Repeated};
+use command_words::{AtMost, Once, Repeated};
 use fsrm_model::limits::{LAST_OWNER, MOST_DAYS, MOST_EXCLUDED, MOST_ROWS, MOST_USE};
 
 pub const PATH: Once<AbsolutePath> = Once {

@@ -4,26 +4,19 @@
 //! first refusal, or nothing for a line that is skipped.
 #![tactic(auto)]
 
-mod actions;
 mod admin;
 mod autos;
 mod commands;
 mod exceptions;
-mod forms;
 mod groups;
 mod keys;
-mod limits;
-mod options;
 mod paths;
-mod patterns;
 mod quotas;
 mod reading;
-mod report_words;
 mod reports;
 mod screens;
 mod templates;
 mod tools;
-mod values;
-mod words;
 
-pub use reading::{LineFault, is_skipped_line, read_line};
+pub use command_words::LineFault;
+pub use reading::{is_skipped_line, read_line};

@@ -1,12 +1,10 @@
 //! The option of commands that take a path and nothing else.
 
+ghost use Rattle.command_words.specs.Taking.{left, end};
 ghost use Rattle.tool_commands.specs.PathOption.{ReadsPath};
-ghost use Rattle.tool_commands.specs.Taking.{left, end};
 
-use crate::keys::PATH;
-use crate::options::{read_options, required};
-use crate::reading::LineFault;
-use crate::words::Words;
+use crate::keys;
+use command_words::{LineFault, Words, read_options, required};
 use fsrm_model::Path;
 use std::alloc::Global;
 
@@ -14,6 +12,6 @@ use std::alloc::Global;
 pub fn path_alone(alloc: Global, words: &mut Words<'_>) -> Result<Path, LineFault>
     ensures { ReadsPath result (end words.old) (left words.old) }
 {
-    let path = read_options(alloc, PATH, words)?;
+    let path = read_options(alloc, keys::PATH, words)?;
     required(path, words)
 }

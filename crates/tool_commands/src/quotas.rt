@@ -3,27 +3,24 @@
 ghost use Rattle.fsrm_model.specs.declared.command.Deed.TheVariants.{Quota};
 ghost use Rattle.fsrm_model.specs.lines.Line.{option_words, named_word};
 ghost use Rattle.fsrm_model.specs.lines.Tools.{quota_add, quota_modify, quota_list, quota_commands};
+ghost use Rattle.command_words.specs.Taking.{left, end};
 ghost use Rattle.tool_commands.specs.LineFaults.{ReadsIn};
-ghost use Rattle.tool_commands.specs.Taking.{left, end};
 
-use crate::keys::{
-    ADD_NOTIFICATION, ADD_THRESHOLD, LIMIT, PATH, QUOTA_TYPE, REMOVE_THRESHOLD, SOURCE_TEMPLATE,
-    STATUS,
-};
-use crate::options::{read_options, required};
+use crate::keys;
 use crate::paths::path_alone;
-use crate::reading::LineFault;
-use crate::values::is_named;
-use crate::words::Words;
+use command_words::{LineFault, Words, is_named, read_options, required};
 use fsrm_model::{NewQuota, NewThresholds, QuotaChange, QuotaDeed};
 use std::alloc::Global;
 
 fn add(alloc: Global, words: &mut Words<'_>) -> Result<QuotaDeed, LineFault>
     ensures { ReadsIn (λ deed. Quota deed) result (option_words quota_add (end words.old) (left words.old)) }
 {
-    let kind = (QUOTA_TYPE, STATUS);
-    let thresholds = (ADD_THRESHOLD, ADD_NOTIFICATION);
-    let options = ((PATH, LIMIT), (kind, (SOURCE_TEMPLATE, thresholds)));
+    let kind = (keys::QUOTA_TYPE, keys::STATUS);
+    let thresholds = (keys::ADD_THRESHOLD, keys::ADD_NOTIFICATION);
+    let options = (
+        (keys::PATH, keys::LIMIT),
+        (kind, (keys::SOURCE_TEMPLATE, thresholds)),
+    );
     let ((path, limit), (kind, (template, thresholds))) = read_options(alloc, options, words)?;
     let (enforce, enabled) = kind;
     let (percents, notices) = thresholds;
@@ -45,9 +42,12 @@ fn add(alloc: Global, words: &mut Words<'_>) -> Result<QuotaDeed, LineFault>
 fn modify(alloc: Global, words: &mut Words<'_>) -> Result<QuotaDeed, LineFault>
     ensures { ReadsIn (λ deed. Quota deed) result (option_words quota_modify (end words.old) (left words.old)) }
 {
-    let kind = (QUOTA_TYPE, STATUS);
-    let thresholds = (ADD_THRESHOLD, ADD_NOTIFICATION);
-    let options = ((PATH, LIMIT), (kind, (REMOVE_THRESHOLD, thresholds)));
+    let kind = (keys::QUOTA_TYPE, keys::STATUS);
+    let thresholds = (keys::ADD_THRESHOLD, keys::ADD_NOTIFICATION);
+    let options = (
+        (keys::PATH, keys::LIMIT),
+        (kind, (keys::REMOVE_THRESHOLD, thresholds)),
+    );
     let ((path, limit), (kind, (removed, thresholds))) = read_options(alloc, options, words)?;
     let (enforce, enabled) = kind;
     let (percents, notices) = thresholds;
@@ -66,7 +66,7 @@ fn modify(alloc: Global, words: &mut Words<'_>) -> Result<QuotaDeed, LineFault>
 fn list(alloc: Global, words: &mut Words<'_>) -> Result<QuotaDeed, LineFault>
     ensures { ReadsIn (λ deed. Quota deed) result (option_words quota_list (end words.old) (left words.old)) }
 {
-    let path = read_options(alloc, PATH, words)?;
+    let path = read_options(alloc, keys::PATH, words)?;
     Ok(QuotaDeed::List { path })
 }
 

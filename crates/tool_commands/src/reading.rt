@@ -3,48 +3,19 @@
 ghost use Rattle.std.specs.Prelude.{◌≡◌, ◌≤◌, ◌↔◌, IsTrue, IfOk, IfErr, IfSome, Ok, Some, None, true, length, option_map, if◌then◌else◌};
 ghost use Rattle.std.specs.List.{list_any};
 ghost use Rattle.fsrm_model.specs.declared.command.Command.{Command};
-ghost use Rattle.fsrm_model.specs.declared.command.Refusal.TheVariants.{BadLine};
 ghost use Rattle.fsrm_model.specs.lines.Line.{read_line, read_words, is_skipped};
 ghost use Rattle.fsrm_model.specs.store.Valued.{is_command};
 ghost use Rattle.fsrm_model.specs.values.Limits.{longest_line};
 ghost use Rattle.fsrm_model.specs.lines.Words.{is_quote, is_closed, last_quote};
 ghost use Rattle.tool_commands.specs.LineFaults.{IsFault, ReadsWords};
-ghost use Rattle.tool_commands.specs.declared.reading.LineFault.TheVariants.{Refused, NoMemory as Memory};
 
 use crate::commands::{deed, other_deed};
-use crate::words::{Words, blanks};
+use command_words::{LineFault, Words, blanks};
 use fsrm_model::limits::LONGEST_LINE;
-use fsrm_model::{Command, NoMemory, Refusal};
+use fsrm_model::{Command, Refusal};
 use memchr::{memchr_iter, memrchr};
 use std::alloc::Global;
 use std::str;
-
-/// Why a line is read as no command.
-#[derive(Clone, Copy, Debug, PartialEq, Eq)]
-pub enum LineFault {
-    /// What it spells is refused: BadLine, LineTooLong, InvalidPath, InvalidName, OutOfRange or
-    /// InvalidLimit.
-    Refused(Refusal),
-    /// Memory ran out.
-    NoMemory,
-}
-
-impl LineFault {
-    /// A word that hasn't its form, or is missing. The column counts bytes from 1.
-    pub(crate) fn bad_line(column: u32) -> LineFault
-        ensures { result ≡ Refused (BadLine column) }
-    {
-        LineFault::Refused(Refusal::BadLine { column })
-    }
-}
-
-impl From<NoMemory> for LineFault {
-    ghost from_gives = { λ _ fault. fault ≡ Memory };
-
-    fn from(_error: NoMemory) -> Self {
-        LineFault::NoMemory
-    }
-}
 
 fn is_skipped(line: &[u8]) -> bool
     ensures { result ≡ is_skipped line.now }

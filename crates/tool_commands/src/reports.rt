@@ -3,15 +3,12 @@
 ghost use Rattle.fsrm_model.specs.declared.command.Deed.TheVariants.{Reports};
 ghost use Rattle.fsrm_model.specs.lines.Line.{option_words, named_word};
 ghost use Rattle.fsrm_model.specs.lines.Tools.{report_generate, job_add, report_commands};
+ghost use Rattle.command_words.specs.Taking.{left, end};
 ghost use Rattle.tool_commands.specs.LineFaults.{ReadsIn};
 ghost use Rattle.tool_commands.specs.TaskOption.{ReadsTask};
-ghost use Rattle.tool_commands.specs.Taking.{left, end};
 
-use crate::keys::{DAYS, MAX, MIN_SIZE, MIN_USE, OWNER, PATTERN, REPORT, SCHEDULE, SCOPE, TASK};
-use crate::options::{read_options, required};
-use crate::reading::LineFault;
-use crate::values::is_named;
-use crate::words::Words;
+use crate::keys;
+use command_words::{LineFault, Words, is_named, read_options, required};
 use fsrm_model::{Filter, NewJob, NewReport, ReportsDeed, Text};
 use std::alloc::Global;
 
@@ -21,8 +18,11 @@ const USUAL_ROWS: u32 = 1_000;
 fn generate(alloc: Global, words: &mut Words<'_>) -> Result<ReportsDeed, LineFault>
     ensures { ReadsIn (λ deed. Reports deed) result (option_words report_generate (end words.old) (left words.old)) }
 {
-    let filter = ((OWNER, PATTERN), (MIN_SIZE, (DAYS, (MIN_USE, MAX))));
-    let options = (REPORT, (SCOPE, filter));
+    let filter = (
+        (keys::OWNER, keys::PATTERN),
+        (keys::MIN_SIZE, (keys::DAYS, (keys::MIN_USE, keys::MAX))),
+    );
+    let options = (keys::REPORT, (keys::SCOPE, filter));
     let (kind, (scope, filter)) = read_options(alloc, options, words)?;
     let ((owner, pattern), (min_size, (days, (min_use, max)))) = filter;
     let kind = required(kind, words)?;
@@ -45,8 +45,14 @@ fn generate(alloc: Global, words: &mut Words<'_>) -> Result<ReportsDeed, LineFau
 fn add(alloc: Global, words: &mut Words<'_>) -> Result<ReportsDeed, LineFault>
     ensures { ReadsIn (λ deed. Reports deed) result (option_words job_add (end words.old) (left words.old)) }
 {
-    let filter = ((OWNER, PATTERN), (MIN_SIZE, (DAYS, (MIN_USE, MAX))));
-    let options = ((TASK, REPORT), ((SCOPE, SCHEDULE), filter));
+    let filter = (
+        (keys::OWNER, keys::PATTERN),
+        (keys::MIN_SIZE, (keys::DAYS, (keys::MIN_USE, keys::MAX))),
+    );
+    let options = (
+        (keys::TASK, keys::REPORT),
+        ((keys::SCOPE, keys::SCHEDULE), filter),
+    );
     let ((name, kind), ((scope, schedule), filter)) = read_options(alloc, options, words)?;
     let ((owner, pattern), (min_size, (days, (min_use, max)))) = filter;
     let name = required(name, words)?;
@@ -73,7 +79,7 @@ fn add(alloc: Global, words: &mut Words<'_>) -> Result<ReportsDeed, LineFault>
 fn task_alone(alloc: Global, words: &mut Words<'_>) -> Result<Text, LineFault>
     ensures { ReadsTask result (end words.old) (left words.old) }
 {
-    let name = read_options(alloc, TASK, words)?;
+    let name = read_options(alloc, keys::TASK, words)?;
     required(name, words)
 }
 

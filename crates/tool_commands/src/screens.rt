@@ -3,22 +3,25 @@
 ghost use Rattle.fsrm_model.specs.declared.command.Deed.TheVariants.{Screen};
 ghost use Rattle.fsrm_model.specs.lines.Line.{option_words, named_word};
 ghost use Rattle.fsrm_model.specs.lines.Tools.{screen_add, screen_commands, screen_modify};
+ghost use Rattle.command_words.specs.Taking.{left, end};
 ghost use Rattle.tool_commands.specs.LineFaults.{ReadsIn};
-ghost use Rattle.tool_commands.specs.Taking.{left, end};
 
-use crate::keys::{ADD_FILEGROUP, PATH, REMOVE_FILEGROUP, SCREEN_NOTIFICATION, SCREEN_TYPE};
-use crate::options::{read_options, required};
+use crate::keys;
 use crate::paths::path_alone;
-use crate::reading::LineFault;
-use crate::values::is_named;
-use crate::words::Words;
+use command_words::{LineFault, Words, is_named, read_options, required};
 use fsrm_model::{NewScreen, ScreenChange, ScreenDeed};
 use std::alloc::Global;
 
 fn add(alloc: Global, words: &mut Words<'_>) -> Result<ScreenDeed, LineFault>
     ensures { ReadsIn (λ deed. Screen deed) result (option_words screen_add (end words.old) (left words.old)) }
 {
-    let options = (PATH, (SCREEN_TYPE, (ADD_FILEGROUP, SCREEN_NOTIFICATION)));
+    let options = (
+        keys::PATH,
+        (
+            keys::SCREEN_TYPE,
+            (keys::ADD_FILEGROUP, keys::SCREEN_NOTIFICATION),
+        ),
+    );
     let (path, (active, (groups, actions))) = read_options(alloc, options, words)?;
     let path = required(path, words)?;
     if groups.is_empty() {
@@ -35,7 +38,13 @@ fn add(alloc: Global, words: &mut Words<'_>) -> Result<ScreenDeed, LineFault>
 fn modify(alloc: Global, words: &mut Words<'_>) -> Result<ScreenDeed, LineFault>
     ensures { ReadsIn (λ deed. Screen deed) result (option_words screen_modify (end words.old) (left words.old)) }
 {
-    let options = (PATH, (SCREEN_TYPE, (REMOVE_FILEGROUP, ADD_FILEGROUP)));
+    let options = (
+        keys::PATH,
+        (
+            keys::SCREEN_TYPE,
+            (keys::REMOVE_FILEGROUP, keys::ADD_FILEGROUP),
+        ),
+    );
     let (path, (active, (removed, groups))) = read_options(alloc, options, words)?;
     let path = required(path, words)?;
     Ok(ScreenDeed::Modify(ScreenChange {

@@ -3,24 +3,22 @@
 ghost use Rattle.fsrm_model.specs.declared.command.Deed.TheVariants.{Template};
 ghost use Rattle.fsrm_model.specs.lines.Line.{option_words, named_word};
 ghost use Rattle.fsrm_model.specs.lines.Tools.{template_add, template_modify, template_delete, template_commands};
+ghost use Rattle.command_words.specs.Taking.{left, end};
 ghost use Rattle.tool_commands.specs.LineFaults.{ReadsIn};
-ghost use Rattle.tool_commands.specs.Taking.{left, end};
 
-use crate::keys::{
-    ADD_NOTIFICATION, ADD_THRESHOLD, LIMIT, QUOTA_TYPE, REMOVE_THRESHOLD, TEMPLATE, UPDATE_DERIVED,
-};
-use crate::options::{read_options, required};
-use crate::reading::LineFault;
-use crate::values::is_named;
-use crate::words::Words;
+use crate::keys;
+use command_words::{LineFault, Words, is_named, read_options, required};
 use fsrm_model::{NewTemplate, NewThresholds, TemplateChange, TemplateDeed, Update};
 use std::alloc::Global;
 
 fn add(alloc: Global, words: &mut Words<'_>) -> Result<TemplateDeed, LineFault>
     ensures { ReadsIn (λ deed. Template deed) result (option_words template_add (end words.old) (left words.old)) }
 {
-    let thresholds = (ADD_THRESHOLD, ADD_NOTIFICATION);
-    let options = ((TEMPLATE, LIMIT), (QUOTA_TYPE, thresholds));
+    let thresholds = (keys::ADD_THRESHOLD, keys::ADD_NOTIFICATION);
+    let options = (
+        (keys::TEMPLATE, keys::LIMIT),
+        (keys::QUOTA_TYPE, thresholds),
+    );
     let ((name, limit), (enforce, thresholds)) = read_options(alloc, options, words)?;
     let (percents, notices) = thresholds;
     let name = required(name, words)?;
@@ -37,10 +35,13 @@ fn add(alloc: Global, words: &mut Words<'_>) -> Result<TemplateDeed, LineFault>
 fn modify(alloc: Global, words: &mut Words<'_>) -> Result<TemplateDeed, LineFault>
     ensures { ReadsIn (λ deed. Template deed) result (option_words template_modify (end words.old) (left words.old)) }
 {
-    let thresholds = (REMOVE_THRESHOLD, (ADD_THRESHOLD, ADD_NOTIFICATION));
+    let thresholds = (
+        keys::REMOVE_THRESHOLD,
+        (keys::ADD_THRESHOLD, keys::ADD_NOTIFICATION),
+    );
     let options = (
-        (TEMPLATE, LIMIT),
-        (QUOTA_TYPE, (thresholds, UPDATE_DERIVED)),
+        (keys::TEMPLATE, keys::LIMIT),
+        (keys::QUOTA_TYPE, (thresholds, keys::UPDATE_DERIVED)),
     );
     let ((name, limit), (enforce, (thresholds, update))) = read_options(alloc, options, words)?;
     let (removed, (percents, notices)) = thresholds;
@@ -59,7 +60,7 @@ fn modify(alloc: Global, words: &mut Words<'_>) -> Result<TemplateDeed, LineFaul
 fn delete(alloc: Global, words: &mut Words<'_>) -> Result<TemplateDeed, LineFault>
     ensures { ReadsIn (λ deed. Template deed) result (option_words template_delete (end words.old) (left words.old)) }
 {
-    let name = read_options(alloc, TEMPLATE, words)?;
+    let name = read_options(alloc, keys::TEMPLATE, words)?;
     let name = required(name, words)?;
     Ok(TemplateDeed::Delete { name })
 }

@@ -2,20 +2,18 @@
 
 ghost use Rattle.fsrm_model.specs.lines.Line.{tool_words};
 ghost use Rattle.fsrm_model.specs.lines.Tools.{dirquota, filescrn, storrept};
-ghost use Rattle.tool_commands.specs.LineFaults.{Reads};
-ghost use Rattle.tool_commands.specs.Taking.{left, end};
+ghost use Rattle.command_words.specs.LineFaults.{Reads};
+ghost use Rattle.command_words.specs.Taking.{left, end};
 
 use crate::admin::admin;
 use crate::autos::autoquota;
 use crate::exceptions::exception;
 use crate::groups::filegroup;
 use crate::quotas::quota;
-use crate::reading::LineFault;
 use crate::reports::reports;
 use crate::screens::screen;
 use crate::templates::template;
-use crate::values::is_named;
-use crate::words::Words;
+use command_words::{LineFault, Words, is_named};
 use fsrm_model::{Boxed, Deed};
 use std::alloc::Global;
 

@@ -7,8 +7,8 @@ use Rattle.fsrm_model.specs.lines.Line.{Reader, readers, tool_reader, tool_words
 use Rattle.fsrm_model.specs.lines.Reading.{Read, ◌>>=◌, known}
 use Rattle.fsrm_model.specs.lines.Tools.{Names, ToolCommand, named, tools}
 use Rattle.fsrm_model.specs.lines.Words.{Word}
-use Rattle.tool_commands.specs.LineFaults.{ReadsWords, at_moment}
-use Rattle.tool_commands.specs.Taking.{left, end, lent_word, named_by}
+use Rattle.command_words.specs.Taking.{left, end, lent_word}
+use Rattle.tool_commands.specs.LineFaults.{ReadsWords, at_moment, named_by}
 use Rattle.tool_commands.proofs.commands.deed.Goals as goal
 
 abbrev Isnt : List ℕ → List ℕ → Type 0

@@ -1,6 +1,6 @@
 use Rattle.fsrm_model.specs.lines.Line.{readers}
-use Rattle.tool_commands.specs.LineFaults.{ReadsWords, at_moment}
-use Rattle.tool_commands.specs.Taking.{left, end, line_word, named_by}
+use Rattle.tool_commands.specs.LineFaults.{ReadsWords, at_moment, named_by}
+use Rattle.command_words.specs.Taking.{left, end, line_word}
 use Rattle.tool_commands.proofs.NamedWords.{named_read}
 use Rattle.std.proofs.Common.{subst}
 use Rattle.tool_commands.proofs.commands.other_deed.Goals as goal

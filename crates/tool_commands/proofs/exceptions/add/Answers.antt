@@ -3,8 +3,8 @@ use Rattle.fsrm_model.specs.declared.command.Refusal.TheVariants.{BadLine}
 use Rattle.fsrm_model.specs.lines.ValueForms.{path_of, text_of}
 use Rattle.fsrm_model.specs.lines.Options.{path_key, add_filegroup_key}
 use Rattle.fsrm_model.specs.lines.Tools.{except_add}
-use Rattle.tool_commands.specs.declared.reading.LineFault.TheVariants.{Refused}
-use Rattle.tool_commands.specs.Taking.{left, end}
+use Rattle.command_words.specs.declared.fault.LineFault.TheVariants.{Refused}
+use Rattle.command_words.specs.Taking.{left, end}
 use Rattle.tool_commands.proofs.NeededOptions.{missing, needs_none, needs_some, none_given, some_given}
 use Rattle.tool_commands.proofs.exceptions.add.Goals as goal
 

@@ -4,7 +4,7 @@ use Rattle.fsrm_base.proofs.TestLaws.{or_later}
 use Rattle.fsrm_model.specs.lines.ValueForms.{path_of}
 use Rattle.fsrm_model.specs.lines.Options.{path_key}
 use Rattle.fsrm_model.specs.lines.Tools.{quota_add}
-use Rattle.tool_commands.specs.Taking.{left, end}
+use Rattle.command_words.specs.Taking.{left, end}
 use Rattle.std.specs.Prelude.{is_some, ◌||◌}
 use Rattle.tool_commands.proofs.NeededOptions.{lacking, quota_read}
 use Rattle.tool_commands.proofs.quotas.add.Goals as goal

@@ -3,7 +3,7 @@ use Rattle.std.proofs.lemmas.Result.{err_from_is_err_and}
 use Rattle.fsrm_model.specs.lines.ValueForms.{path_of}
 use Rattle.fsrm_model.specs.lines.Options.{path_key}
 use Rattle.fsrm_model.specs.lines.Tools.{quota_modify}
-use Rattle.tool_commands.specs.Taking.{left, end}
+use Rattle.command_words.specs.Taking.{left, end}
 use Rattle.tool_commands.proofs.NeededOptions.{lacking}
 use Rattle.tool_commands.proofs.quotas.modify.Goals as goal
 

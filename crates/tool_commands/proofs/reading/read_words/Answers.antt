@@ -1,10 +1,10 @@
 use Rattle.std.proofs.Common.{Err, sym, ap, ◌∙◌, subst}
 use Rattle.std.proofs.lemmas.Result.{err_from_is_err_and}
 use Rattle.fsrm_model.specs.lines.Line.{readers, next_word, deed_words}
+use Rattle.command_words.specs.Taking.{left, end, lent_word}
+use Rattle.command_words.proofs.Taken.{same_read}
 use Rattle.tool_commands.specs.LineFaults.{ReadsWords, at_moment}
-use Rattle.tool_commands.specs.Taking.{left, end, lent_word}
 use Rattle.tool_commands.proofs.NamedWords.{named_read, moment_read, fault_at_moment, line_words}
-use Rattle.tool_commands.proofs.Taken.{same_read}
 use Rattle.tool_commands.proofs.reading.read_words.Goals as goal
 
 pub returns-in_err-moment : goal.returns-in_err-moment

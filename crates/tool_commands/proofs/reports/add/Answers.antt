@@ -3,7 +3,7 @@ use Rattle.std.proofs.lemmas.Result.{err_from_is_err_and}
 use Rattle.fsrm_model.specs.lines.ValueForms.{path_of, report_of, text_of}
 use Rattle.fsrm_model.specs.lines.Options.{report_key, scope_key, task_key}
 use Rattle.fsrm_model.specs.lines.Tools.{job_add}
-use Rattle.tool_commands.specs.Taking.{left, end}
+use Rattle.command_words.specs.Taking.{left, end}
 use Rattle.tool_commands.proofs.NeededOptions.{lacking, needs_some}
 use Rattle.tool_commands.proofs.ReportOptions.{filter_is, job_read}
 use Rattle.tool_commands.proofs.reports.add.Goals as goal

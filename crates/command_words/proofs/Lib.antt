@@ -1,0 +1,11 @@
+pub mod Fronts
+pub mod Marks
+pub mod WordLengths
+pub mod LineWords
+pub mod Quotes
+pub mod Numbers
+pub mod LimitWords
+pub mod OptionLaws
+pub mod Taken
+pub mod CommaLaws
+pub mod PatternLaws

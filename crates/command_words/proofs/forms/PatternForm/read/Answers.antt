@@ -1,0 +1,8 @@
+use Rattle.std.proofs.Common.{refl}
+use Rattle.fsrm_model.specs.lines.ValueForms.{TextValue, text_of}
+use Rattle.fsrm_model.specs.texts.ReportWords.{pattern_from}
+use Rattle.command_words.proofs.OptionLaws.{reads_value}
+use Rattle.command_words.proofs.forms.PatternForm.read.Goals as goal
+
+pub returns : goal.returns
+returns c = reads_value text_of TextValue c.read_pattern.result (pattern_from c.args.text.now) (λ x. refl) c.read_pattern.ensures

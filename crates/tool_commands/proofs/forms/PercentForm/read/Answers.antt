@@ -1,8 +1,0 @@
-use Rattle.std.proofs.Common.{refl}
-use Rattle.fsrm_model.specs.lines.ValueForms.{NumberValue, number_of}
-use Rattle.fsrm_model.specs.texts.ActionWords.{percent_from}
-use Rattle.tool_commands.proofs.OptionLaws.{reads_value}
-use Rattle.tool_commands.proofs.forms.PercentForm.read.Goals as goal
-
-pub returns : goal.returns
-returns c = reads_value number_of NumberValue c.read_percent.result (percent_from c.args.column c.args.text.now) (λ x. refl) c.read_percent.ensures
