@@ -1,4 +1,4 @@
--- Faults of the tree and of the tables as refusals of a command.
+-- The room that is left for texts, and the refusal of a change by a quota.
 use Rattle.std.specs.Prelude.{ℕ, ◌+◌, ◌-◌, Option, option_map}
 use Rattle.file_groups.specs.Kept.{group_texts}
 use Rattle.fsrm_model.specs.declared.command.Refusal.{Refusal}

@@ -86,6 +86,7 @@ bare tree scans =
       level = false;
     }
 
+-- ---- what is known of the parts
 -- the counters of these quotas are the sums over the tree, and if it is level no peak is below what is used
 pub record IsCounted (size : Capacity) (nodes : List NodeRow) (quotas : List QuotaRow) (counters : List Counter) (level : Bool) : Type 0 where
   pub volume : IsVolume size nodes

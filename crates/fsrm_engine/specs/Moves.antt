@@ -1,7 +1,7 @@
 -- A node that moves, and what is known of it before it does.
 use Rattle.std.specs.Prelude.{◌≡◌, ℕ, ◌==◌, false, List, Option, Some, None, option_map, if◌then◌else◌}
 use Rattle.fsrm_model.specs.objects.Screens.{judging}
-use Rattle.fsrm_model.specs.nodes.Tree.{is_folder, owner_of, parent_of, resolve, usage}
+use Rattle.fsrm_model.specs.nodes.Tree.{is_folder, owner_of, parent_of, resolve}
 use Rattle.volume_tree.specs.Volume.{Volume, move_fault}
 use Rattle.file_screens.specs.declared.answer.Blocked.{Blocked}
 use Rattle.file_screens.specs.Blocked.{told}

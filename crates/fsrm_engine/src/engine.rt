@@ -24,7 +24,7 @@ use file_groups::Groups;
 use file_screens::Audit;
 use fsrm_model::{Act, Answer, Capacity, Command, FileOp, Ledger, NoMemory, Refusal, Steps};
 use fsrm_objects::Objects;
-use fsrm_parts::{refused, text_of};
+use fsrm_parts::{arrange_for, arrange_for_op, refused, text_of};
 use std::alloc::Global;
 use std::marker::Model;
 use templates::Templates;
@@ -79,6 +79,14 @@ impl Engine {
         ensures volume { IsVolume self.now.size self.now.rows.nodes }
     {
         &self.parts.tree
+    }
+
+    /// Puts the nodes of the tree into their order that aren't yet, so that whoever is to walk through it needn't seek
+    /// each child among all nodes. Nothing else changes.
+    pub fn arrange(&mut self)
+        ensures { self.new ≡ self.old }
+    {
+        self.parts.tree.arrange();
     }
 
     /// The quotas, the screens and their exceptions, and the report jobs, lent.
@@ -191,6 +199,7 @@ impl Engine {
         if command.moment < self.parts.last_moment {
             return Ok(refused(Refusal::ClockBack));
         }
+        arrange_for(&mut self.parts.tree, &command.deed);
         self.parts.take(alloc, command, steps)
     }
 
@@ -217,6 +226,7 @@ impl Engine {
         if moment < self.parts.last_moment {
             return Ok(refused(Refusal::ClockBack));
         }
+        arrange_for_op(&mut self.parts.tree, op);
         self.parts.file_op(alloc, op, moment, steps)
     }
 
@@ -235,6 +245,7 @@ impl Engine {
         if moment < self.parts.last_moment {
             return refused(Refusal::ClockBack);
         }
+        self.parts.tree.arrange();
         self.parts.go_on(n, moment, steps)
     }
 
@@ -251,6 +262,7 @@ impl Engine {
         ensures kept { IsValid self.new.size self.new.rows }
         ensures looks { steps.new ≤ steps.old + 3 * length (under self.old.rows.nodes folder) }
     {
+        self.parts.tree.arrange();
         self.parts.finish_fresh(folder, moment, steps);
     }
 

@@ -35,7 +35,7 @@ impl Parts {
         ensures ready { IfOk result (λ found. found.1 ≡ record { node = found.0.node; folder = found.0.place.folder; name = found.0.place.name.now }) }
         ensures err { IfErr result (λ refusal. (moment : ℕ) → first (move_checks self.now.tree.size (rows_of self.now) from.now to.now (file_effect (rows_of self.now) (Move from.now to.now) moment)) ≡ Some refusal) }
         ensures bare { IfErr result (λ refusal. is_bare refusal ≡ true) }
-        ensures looks { steps.new ≤ steps.old + (22 * length from.now + 23 * length to.now + 26) }
+        ensures looks { steps.new ≤ steps.old + (22 * length from.now + 23 * length to.now + 27) }
     {
         let Some(node) = self.tree.resolve(from, steps) else {
             return Err(Refusal::PathNotFound);
@@ -129,7 +129,7 @@ impl Parts {
         ensures memory { OnErr result (moving.now.folder ≡ true) }
         ensures err { OnErr result (self.new ≡ self.old) }
         ensures sound { IsSound self.new }
-        ensures looks { steps.new ≤ steps.old + (4 * length (under self.old.tree.nodes moving.now.node) + 5 * (length from.now + length to.now) + 47) }
+        ensures looks { steps.new ≤ steps.old + (4 * length (under self.old.tree.nodes moving.now.node) + 5 * (length from.now + length to.now) + 46) }
     {
         self.receive_moved(alloc, source, moving.node, moment, steps)?;
         self.scans

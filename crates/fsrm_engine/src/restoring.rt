@@ -11,7 +11,8 @@ ghost use Rattle.fsrm_engine.specs.Restored.{idle_scans, is_restorable, restored
 use crate::parts::Parts;
 use fsrm_model::{Capacity, Ledger, NoMemory, Rows, Steps};
 use fsrm_parts::{
-    are_texts_few, begin_all, fill_audit, fill_groups, fill_log, fill_objects, fill_templates,
+    are_texts_few, arrange_for_sums, begin_all, fill_audit, fill_groups, fill_log, fill_objects,
+    fill_templates,
 };
 use rescan::Scans;
 use row_rules::are_kept;
@@ -34,10 +35,11 @@ impl Parts {
         ensures bad { IsErrOf result RowsFault.BadRows → is_restorable size rows.now ≡ false }
         ensures looks { steps.new ≤ steps.old + 3 * length rows.now.nodes }
     {
-        let tree = Tree::from_rows(alloc, &rows.nodes, size)?;
+        let mut tree = Tree::from_rows(alloc, &rows.nodes, size)?;
         if !are_kept(rows) {
             return Err(RowsFault::BadRows);
         }
+        arrange_for_sums(&mut tree, rows);
         Parts::over_rows(alloc, tree, rows, steps)
     }
 

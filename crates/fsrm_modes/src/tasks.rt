@@ -110,7 +110,11 @@ fn perform<O: Outside, L: Ledger>(
     match task {
         Task::Script { .. } => read_script(session, outside, alloc, steps),
         Task::Made { seed, count } => told(sum_up(session, outside, alloc, seed, count, steps)),
-        Task::Moves(ask) => told(move_expired(session, outside, alloc, ask, steps)),
+        Task::Moves(ask) => {
+            // Old files are found by a walk.
+            session.arrange();
+            told(move_expired(session, outside, alloc, ask, steps))
+        }
         Task::Jobs { moment } => told(tell_and_run(session, outside, alloc, moment, steps)),
     }
 }

@@ -216,7 +216,8 @@ pub fn drop_quota(usage: &mut Usage, objects: &mut Objects, folder: u32)
     drop_row(objects, folder);
 }
 
-/// Takes out of the noted quotas (`crossing`) those to which a change gives what it takes from them: they use as much as before.
+/// Takes out of the noted quotas (`crossing`) those to which a change gives what it takes from them: they use as much as
+/// before.
 pub fn drop_kept<L: Ledger>(
     tree: &Tree,
     objects: &Objects,

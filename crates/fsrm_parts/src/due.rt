@@ -14,8 +14,8 @@ use number_set::NumberSet;
 use quota_usage::Usage;
 use thresholds::Marks;
 
-/// Settles the quotas whose places were noted, in the order of their folders. Each of their counters has gained this. The run
-/// limit is in minutes, and stands for an action's -1.
+/// Settles the quotas whose places were noted, in the order of their folders. Each of their counters has gained this. The
+/// run limit is in minutes, and stands for an action's -1.
 pub fn settle_noted(
     usage: &Usage,
     objects: &mut Objects,

@@ -1,6 +1,6 @@
 //! Tables and logs that are filled with the rows of a store.
 
-ghost use Rattle.std.specs.Prelude.{◌≡◌, ◌+◌, ◌≤◌, [], nat_le, true, false, length, OnOk, IsErrOf};
+ghost use Rattle.std.specs.Prelude.{◌≡◌, ◌+◌, ◌≤◌, [], nat_le, true, false, length, OnErr, OnOk, IsErrOf};
 ghost use Rattle.fsrm_model.specs.store.Valid.{are_audits};
 ghost use Rattle.fsrm_model.specs.values.Limits.{most_entries, most_text_bytes};
 ghost use Rattle.fsrm_model.specs.values.Name.{names_differ};
@@ -25,19 +25,20 @@ use thresholds::Marks;
 use volume_tree::RowsFault;
 
 /// Fills the table of file groups with those of rows that are judged (`are_kept`). They are bad only if two names are the
-/// same, or the texts too long.
+/// same, or the texts too long. After an `Err` the table is as it was.
 pub fn fill_groups(groups: &mut Groups, alloc: Global, rows: &Rows) -> Result<(), RowsFault>
     requires { are_kept rows.now ≡ true }
     ensures ok { OnOk result (groups.new ≡ rows.now.groups) }
     ensures may { OnOk result (are_apart rows.now.groups ≡ true) }
     ensures bad { IsErrOf result RowsFault.BadRows → are_fitting rows.now ≡ false }
+    ensures err { OnErr result (groups.new ≡ groups.old) }
 {
     *groups = groups_of(alloc, rows.groups.as_slice())?;
     Ok(())
 }
 
-/// Fills the tables of templates and auto-apply quotas with those of such rows. They are bad only if two
-/// names are the same, or the texts too long.
+/// Fills the tables of templates and auto-apply quotas with those of such rows. They are bad only if two names are the
+/// same, or the texts too long. After an `Err` the tables are as they were.
 pub fn fill_templates(
     templates: &mut Templates,
     alloc: Global,
@@ -47,18 +48,20 @@ pub fn fill_templates(
     ensures ok { OnOk result (templates.new ≡ record { templates = rows.now.templates; autos = rows.now.autos }) }
     ensures may { OnOk result (names_differ template_name rows.now.templates ≡ true) }
     ensures bad { IsErrOf result RowsFault.BadRows → are_fitting rows.now ≡ false }
+    ensures err { OnErr result (templates.new ≡ templates.old) }
 {
     *templates = templates_of(alloc, rows.templates.as_slice(), rows.autos.as_slice())?;
     Ok(())
 }
 
-/// Fills the tables of quotas, screens, exceptions and jobs with those of such rows. They are bad only if two jobs have the same name,
-/// or the texts are too long.
+/// Fills the tables of quotas, screens, exceptions and jobs with those of such rows. They are bad only if two jobs have
+/// the same name, or the texts are too long. After an `Err` the tables are as they were.
 pub fn fill_objects(objects: &mut Objects, alloc: Global, rows: &Rows) -> Result<(), RowsFault>
     requires { are_kept rows.now ≡ true }
     ensures ok { OnOk result (objects.new ≡ record { quotas = rows.now.quotas; screens = rows.now.screens; excepts = rows.now.excepts; jobs = rows.now.jobs; room = 0 }) }
     ensures may { OnOk result (names_differ job_name rows.now.jobs ≡ true) }
     ensures bad { IsErrOf result RowsFault.BadRows → are_fitting rows.now ≡ false }
+    ensures err { OnErr result (objects.new ≡ objects.old) }
 {
     let quotas = rows.quotas.as_slice();
     let screens = rows.screens.as_slice();

@@ -1,7 +1,7 @@
 //! What the commands of an engine do with the tables that are lent to them, each with those alone that it needs.
 //!
-//! Places that paths lead to; rows that commands make, and changed ones; the sums of folders, and the counters that begin
-//! with them; what a change of the counters does to peaks, and which thresholds it crosses; the actions that are due then;
+//! Places that paths lead to; rows that commands make, and changed ones; the sums of folders, and the counters that
+//! begin with them; what a change of the counters does to peaks, and which thresholds it crosses; the actions that are due then;
 //! tables that are filled with the rows of a store; and what the faults of the tables are as answers.
 //!
 //! None of it ends a command: `fsrm_engine` has all tables together, and calls these in the order that a command asks
@@ -35,6 +35,7 @@ mod sums;
 mod threshold_lists;
 mod updates;
 mod usage;
+mod walking;
 
 pub use acts::text_of;
 pub use applying::{derived_row, derived_rows};
@@ -65,3 +66,4 @@ pub use sums::begin_all;
 pub use threshold_lists::{changed_thresholds, may_be_removed};
 pub use updates::settle_rows;
 pub use usage::usage_of;
+pub use walking::{arrange_for, arrange_for_op, arrange_for_sums};

@@ -87,7 +87,7 @@ pub fn vacancy_at<'a, L: Ledger>(
     requires { IsVolume tree.now.size tree.now.nodes }
     ensures ok { IfOk result (λ found. IsVacant tree.now path.now found.0.folder found.0.name.now) }
     ensures err { IfErr result (λ refusal. new_refusal tree.now path.now ≡ Some refusal) }
-    ensures looks { steps.new ≤ steps.old + (22 * length path.now + 23) }
+    ensures looks { steps.new ≤ steps.old + (22 * length path.now + 24) }
 {
     let place = match place_at(tree, path, steps) {
         Ok(place) => place,

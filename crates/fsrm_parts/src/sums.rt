@@ -1,6 +1,6 @@
 //! What the folders of all quotas use, counted in one walk.
 
-ghost use Rattle.std.specs.Prelude.{◌≡◌, ◌+◌, ◌-◌, ◌*◌, ◌≤◌, ◌<◌, ◌++◌, ◌∷◌, [], map, true, length, slice_set, sum_by, IfOk, OnOk};
+ghost use Rattle.std.specs.Prelude.{◌≡◌, ◌+◌, ◌-◌, ◌*◌, ◌≤◌, ◌<◌, ◌++◌, ◌∷◌, [], map, true, length, slice_set, sum_by, IfOk, OnErr, OnOk};
 ghost use Rattle.fsrm_model.specs.store.Capacities.{is_capacity};
 ghost use Rattle.fsrm_model.specs.nodes.Tree.{children_in_order, number as key, under, usage};
 ghost use Rattle.fsrm_model.specs.store.Valid.{AreQuotas, IsVolume};
@@ -176,7 +176,7 @@ pub fn begin_counters(counters: &mut Usage, tree: &Tree, objects: &Objects, sums
     }
 }
 
-/// Has each quota that counts begin with what its folder uses.
+/// Has each quota that counts begin with what its folder uses. If memory runs out, no counter has begun.
 pub fn begin_all<L: Ledger>(
     usage: &mut Usage,
     tree: &Tree,
@@ -189,8 +189,12 @@ pub fn begin_all<L: Ledger>(
     requires quotas { AreQuotas tree.now.nodes objects.now.quotas }
     requires none { usage.old ≡ [] }
     ensures ok { OnOk result (usage.new ≡ sums_of tree.now.size tree.now.nodes objects.now.quotas) }
+    ensures err { OnErr result (usage.new ≡ usage.old) }
     ensures looks { steps.new ≤ steps.old + 3 * length tree.now.nodes }
 {
+    if objects.quota_count() == 0 {
+        return Ok(());
+    }
     let sums = quota_sums(alloc, tree, objects, steps)?;
     begin_counters(usage, tree, objects, &sums);
     Ok(())

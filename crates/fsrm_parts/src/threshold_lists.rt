@@ -130,8 +130,8 @@ fn add_notices(
     Ok(())
 }
 
-/// What a command makes of the thresholds of a quota or a template: some percentages are removed, then some are added, and
-/// then some are given an action each.
+/// What a command makes of the thresholds of a quota or a template: some percentages are removed, then some are added,
+/// and then some are given an action each.
 pub fn changed_thresholds(
     alloc: Global,
     removed: &List<u16>,

@@ -17,7 +17,8 @@ use quota_usage::Usage;
 use templates::Was;
 use thresholds::{Marks, reached};
 
-// Whether what is used, which stays, reaches one of these thresholds by the limit that is now, and didn't by the one before.
+// Whether what is used, which stays, reaches one of these thresholds by the limit that is now, and didn't by the one
+// before.
 fn crosses_some(thresholds: &[Threshold], before: u64, now: u64, used: Option<u64>) -> bool
     ensures { result ≡ limit_crosses before now used thresholds.now }
 {

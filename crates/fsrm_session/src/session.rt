@@ -40,6 +40,13 @@ impl Session {
         }
     }
 
+    /// Puts the nodes of the tree into their order that aren't yet (`Engine::arrange`). Nothing else changes.
+    pub fn arrange(&mut self)
+        ensures { self.new ≡ self.old }
+    {
+        self.store.arrange();
+    }
+
     /// The machine, lent.
     pub fn engine(&self) -> &Engine
         ensures lent { result.now ≡ self.now.store.engine }

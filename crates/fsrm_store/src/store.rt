@@ -52,6 +52,13 @@ impl Store {
     ghost use Rattle.fsrm_store.specs.Standing.{now_kept, HoldsEither, IsHeld, IsReady, IsWritten, KeepsJournal, Standing, StandsAlike};
     ghost use Rattle.fsrm_store.specs.declared.fault.StoreFault.TheVariants.{DiskFault, NoMemory as OutOfMemory};
 
+    /// Puts the nodes of the tree into their order that aren't yet (`Engine::arrange`). Nothing else changes.
+    pub fn arrange(&mut self)
+        ensures { self.new ≡ self.old }
+    {
+        self.engine.arrange();
+    }
+
     /// The machine, lent.
     pub fn engine(&self) -> &Engine
         ensures lent { result.now ≡ self.now.engine }

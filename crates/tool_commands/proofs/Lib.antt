@@ -2,4 +2,3 @@ pub mod QuoteCounts
 pub mod Lines
 pub mod NamedWords
 pub mod NeededOptions
-pub mod ReportOptions

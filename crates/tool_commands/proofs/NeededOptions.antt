@@ -1,19 +1,16 @@
 -- What options that are required ask for, and what is asked for without them.
-use Rattle.std.proofs.Common.{◌≡◌, ℕ, ◌==◌, Bool, true, false, List, [], ◌∷◌, length, Some, None, refl, sym, ◌∙◌, ap, subst}
-use Rattle.std.specs.Prelude.{◌||◌, Option, Ok, Err, is_some, option_and_then, unwrap_or, if◌then◌else◌}
+use Rattle.std.proofs.Common.{◌≡◌, ℕ, ◌==◌, true, false, List, [], ◌∷◌, length, Some, None, refl, sym, ◌∙◌, ap, subst}
+use Rattle.std.specs.Prelude.{Option, Ok, Err, option_and_then}
 use Rattle.std.specs.List.{cons_option}
 use Rattle.std.specs.Option.{option_or}
 use Rattle.fsrm_base.proofs.TestLaws.{clash, eq_same, suc_apart}
 use Rattle.fsrm_model.specs.declared.command.Deed.{Deed}
-use Rattle.fsrm_model.specs.declared.command.Added.{Added}
-use Rattle.fsrm_model.specs.declared.command.Deed.TheVariants.{Quota}
-use Rattle.fsrm_model.specs.declared.command.QuotaDeed.TheVariants.{Add as QuotaAdd}
 use Rattle.fsrm_model.specs.declared.command.Refusal.TheVariants.{BadLine}
-use Rattle.fsrm_model.specs.lines.ValueForms.{Value, path_of, number_of, choice_of, text_of, notice_of}
+use Rattle.fsrm_model.specs.lines.ValueForms.{Value}
 use Rattle.fsrm_model.specs.lines.Line.{option_words}
-use Rattle.fsrm_model.specs.lines.Options.{Key, path_key, limit_key, quota_type_key, status_key, source_template_key, add_threshold_key, add_notification_key, Given, its, one, each_of, options}
+use Rattle.fsrm_model.specs.lines.Options.{Key, Given, its, one, each_of, options}
 use Rattle.fsrm_model.specs.lines.Reading.{Read, ◌>>=◌, known}
-use Rattle.fsrm_model.specs.lines.Tools.{ToolCommand, needs, quota_add, has_limit, new_thresholds}
+use Rattle.fsrm_model.specs.lines.Tools.{ToolCommand, needs}
 use Rattle.fsrm_model.specs.lines.Words.{Word}
 use Rattle.command_words.specs.declared.fault.LineFault.{LineFault}
 use Rattle.command_words.specs.declared.fault.LineFault.TheVariants.{Refused}
@@ -85,42 +82,3 @@ pub lacking : {X : Type 0} (command : ToolCommand) (of : Value → Option X) (ke
 lacking command of key deed last now words given held fault same read is own none =
     let due = missing command last words given read (is ∙ needs_none of key given deed (sym own ∙ none.0)) in
     subst (λ (f : LineFault). Reads {X = Deed} (Err f) (option_words command last words)) (sym none.1) (due ∙ ap (λ (n : ℕ). Err (BadLine n)) (sym same))
-
--- a new quota
-pub quota_read : (last : ℕ) (words : List Word) (given : List Given) (path : List (List ℕ)) (limit : Option ℕ)
-    (enforce enabled : Option Bool) (source : Option (List ℕ)) (percents : List ℕ) (notices : List Added) (on : Bool)
-    → options quota_add.keys words [] ≡ Ok given → one path_of path_key given ≡ Some path
-    → limit ≡ one number_of limit_key given → enforce ≡ one choice_of quota_type_key given
-    → enabled ≡ one choice_of status_key given → source ≡ one text_of source_template_key given
-    → percents ≡ each_of number_of add_threshold_key given → notices ≡ each_of notice_of add_notification_key given
-    → on ≡ unwrap_or enabled true → (is_some limit || is_some source) ≡ true
-    → option_words quota_add last words ≡ Ok (Quota (QuotaAdd (record {
-      path = path;
-      limit = limit;
-      enforce = enforce;
-      enabled = on;
-      template = source;
-      thresholds = record { percents = percents; notices = notices };
-    })))
-quota_read last words given path limit enforce enabled source percents notices on read path_is limit_is enforce_is enabled_is source_is percents_are notices_are on_is picked =
-    let some : has_limit given ≡ true = ap (λ (o : Option ℕ). is_some o || is_some (one text_of source_template_key given)) (sym limit_is) ∙ (ap (λ (o : Option (List ℕ)). is_some limit || is_some o) (sym source_is) ∙ picked) in
-    let make : List (List ℕ) → Option Deed = λ path.
-    Some (Quota (QuotaAdd (record {
-      path = path;
-      limit = one number_of limit_key given;
-      enforce = one choice_of quota_type_key given;
-      enabled = unwrap_or (one choice_of status_key given) true;
-      template = one text_of source_template_key given;
-      thresholds = new_thresholds given;
-    }))) in
-    let due : Deed = Quota (QuotaAdd (record {
-      path = path;
-      limit = limit;
-      enforce = enforce;
-      enabled = on;
-      template = source;
-      thresholds = record { percents = percents; notices = notices };
-    })) in
-    let made : make path ≡ Some due = rw (on_is, limit_is, enforce_is, enabled_is, source_is, percents_are, notices_are) refl in
-    asked quota_add last words given due read
-    (needs_some path_of path_key given (λ path. if has_limit given then make path else None) path path_is ∙ (ap (λ (b : Bool). if b then make path else None) some ∙ made))

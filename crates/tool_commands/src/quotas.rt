@@ -1,5 +1,6 @@
 //! The commands on quotas, each read from the options after its name.
 
+ghost use Rattle.std.specs.Prelude.{◌≡◌, ◌||◌, is_some};
 ghost use Rattle.fsrm_model.specs.declared.command.Deed.TheVariants.{Quota};
 ghost use Rattle.fsrm_model.specs.lines.Line.{option_words, named_word};
 ghost use Rattle.fsrm_model.specs.lines.Tools.{quota_add, quota_modify, quota_list, quota_commands};
@@ -9,8 +10,15 @@ ghost use Rattle.tool_commands.specs.LineFaults.{ReadsIn};
 use crate::keys;
 use crate::paths::path_alone;
 use command_words::{LineFault, Words, is_named, read_options, required};
-use fsrm_model::{NewQuota, NewThresholds, QuotaChange, QuotaDeed};
+use fsrm_model::{NewQuota, NewThresholds, QuotaChange, QuotaDeed, Text};
 use std::alloc::Global;
+
+// Whether a new quota has a limit, of its own or its template's.
+fn has_limit(limit: &Option<u64>, template: &Option<Text>) -> bool
+    ensures { result ≡ (is_some limit.now || is_some template.now) }
+{
+    limit.is_some() || template.is_some()
+}
 
 fn add(alloc: Global, words: &mut Words<'_>) -> Result<QuotaDeed, LineFault>
     ensures { ReadsIn (λ deed. Quota deed) result (option_words quota_add (end words.old) (left words.old)) }
@@ -25,7 +33,7 @@ fn add(alloc: Global, words: &mut Words<'_>) -> Result<QuotaDeed, LineFault>
     let (enforce, enabled) = kind;
     let (percents, notices) = thresholds;
     let path = required(path, words)?;
-    if limit.is_none() && template.is_none() {
+    if !has_limit(&limit, &template) {
         return Err(LineFault::bad_line(words.end()));
     }
     let thresholds = NewThresholds { percents, notices };

@@ -29,6 +29,8 @@ mod lists;
 #[cfg(test)]
 mod many_files;
 #[cfg(test)]
+mod many_names;
+#[cfg(test)]
 mod names;
 #[cfg(test)]
 mod plain_table;

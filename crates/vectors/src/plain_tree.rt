@@ -150,10 +150,25 @@ impl PlainTree {
             && same_name(self.name(*number), name))
     }
 
-    fn child_count(&self, folder: u32) -> usize {
+    /// How many children a folder has.
+    pub fn child_count(&self, folder: u32) -> usize {
         (0..self.size.nodes)
             .filter(|number| self.is_in(*number, folder))
             .count()
+    }
+
+    // How many children of a folder have names that come before this one.
+    fn count_before(&self, folder: u32, name: &str) -> usize {
+        (0..self.size.nodes)
+            .filter(|number| self.is_in(*number, folder)
+                && fold_cmp(self.name(*number), name).is_lt())
+            .count()
+    }
+
+    /// The child at a place in the order of the folded names.
+    pub fn child_at(&self, folder: u32, place: u32) -> Option<u32> {
+        (0..self.size.nodes).find(|number| self.is_in(*number, folder)
+            && self.count_before(folder, self.name(*number)) == place as usize)
     }
 
     // Goes up from a node for as long as any way may be.

@@ -6,6 +6,8 @@ ghost use Rattle.fsrm_model.specs.store.Capacities.{is_capacity};
 ghost use Rattle.fsrm_model.specs.values.Name.{is_name};
 ghost use Rattle.fsrm_model.specs.nodes.Tree.{is_folder as is_folder_of};
 
+use crate::many_names::SPELLINGS;
+use crate::two_trees::numbers;
 use crate::values::{SMALL, TINY, folder, one};
 use fsrm_model::{Capacity, Ledger, List, NodeRow, Steps, Weightless};
 use std::alloc::Global;
@@ -13,7 +15,7 @@ use std::marker::Brand;
 use std::process::Abort;
 use std::sync::ledger::{Blank, Ledger as Named};
 use std::test::Fail;
-use volume_tree::{Finger, RowsFault, Siblings, Tree, TreeFault};
+use volume_tree::{Finger, RowsFault, Tree, TreeFault};
 
 /// Whether there is a folder of this number.
 pub fn is_folder<L: Ledger>(tree: &Tree, node: u32, steps: &mut Steps<L>) -> bool
@@ -79,19 +81,8 @@ fn is_changed<L: Ledger>(tree: &Tree, end: &impl Abort, steps: &mut Steps<L>) ->
     is_made && file.modified == 8 && file.accessed == 9
 }
 
-fn numbers(alloc: Global, siblings: Option<Siblings<'_>>) -> Result<Vec<u32>, Fail> {
-    let mut numbers = Vec::new(alloc);
-    if let Some(siblings) = siblings {
-        for place in 0..siblings.len() {
-            numbers.push(siblings.number(place))?;
-        }
-    }
-    Ok(numbers)
-}
-
 fn are_ordered<L: Ledger>(tree: &Tree, alloc: Global, steps: &mut Steps<L>) -> Result<bool, Fail> {
-    let mut finger = Finger::default();
-    let numbers = numbers(alloc, tree.children(0, &mut finger, steps).next(steps))?;
+    let numbers = numbers(tree, alloc, 0, &mut Finger::default(), steps)?;
     Ok(numbers.as_slice() == [4, 3, 1, 2].as_slice())
 }
 
@@ -137,7 +128,8 @@ fn fault(alloc: Global, rows: &List<NodeRow>, size: Capacity) -> Option<RowsFaul
     Tree::from_rows(alloc, rows, size).err()
 }
 
-fn is_bad(alloc: Global, rows: &List<NodeRow>, size: Capacity) -> bool
+/// Whether no tree is made of these rows.
+pub fn is_bad(alloc: Global, rows: &List<NodeRow>, size: Capacity) -> bool
     requires { is_capacity size ≡ true }
 {
     matches!(fault(alloc, rows, size), Some(RowsFault::BadRows))
@@ -201,9 +193,14 @@ fn are_bad(alloc: Global, first: (u32, &str), second: (u32, &str)) -> Result<boo
     Ok(is_bad(alloc, &folders(alloc, first, second)?, SMALL))
 }
 
+// Two spellings of a name are bad in one folder, and not in two.
 #[test]
 fn twins_are_bad(rt: HostRuntime) -> Result<(), Fail> {
-    assert!(rt; are_bad(rt.alloc(), (0, "a"), (0, "A"))?);
+    for (name, other) in SPELLINGS {
+        assert!(rt; are_bad(rt.alloc(), (0, name), (0, name))?);
+        assert!(rt; are_bad(rt.alloc(), (0, name), (0, other))?);
+        assert!(rt; !are_bad(rt.alloc(), (0, name), (1, other))?);
+    }
     Ok(())
 }
 

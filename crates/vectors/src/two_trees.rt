@@ -8,7 +8,7 @@ ghost use Rattle.fsrm_model.specs.nodes.Tree.{number as key, is_folder as is_fol
 use crate::chances::{below, chances};
 use crate::plain_tree::{Change, PlainTree};
 use crate::trees::is_folder;
-use fsrm_model::{Capacity, Ledger, Steps, Weightless};
+use fsrm_model::{Capacity, Ledger, List, NodeRow, Steps, Weightless};
 use name_rules::is_name;
 use rand_core::Rng;
 use rand_pcg::Pcg32;
@@ -80,18 +80,31 @@ const SIZE: Capacity = Capacity {
     cluster: 4_096,
 };
 
-const CHANGES: u64 = 20_000;
+const CHANGES: u64 = 10_000;
 
 // Where a folder is looked for.
 const FOLDERS: u32 = 80;
+
+// How many places children are asked for.
+const PLACES: u32 = 6;
 
 fn some_name(chances: &mut Pcg32) -> &'static str {
     NAMES[below(chances, NAMES.len() as u32) as usize]
 }
 
+// Two hundred changes are of all sorts. Then two hundred remove nodes, and two hundred make new ones, so that many are
+// late at once.
+fn some_sort(chances: &mut Pcg32, moment: u64) -> u32 {
+    match moment / 200 % 3 {
+        0 => below(chances, 10),
+        1 => 6,
+        _ => below(chances, 4),
+    }
+}
+
 // Four of ten changes make a node, so the volume is mostly full. Low numbers are the folders, so that each has several
 // children.
-fn choose(chances: &mut Pcg32, plain: &PlainTree) -> Change {
+fn choose(chances: &mut Pcg32, plain: &PlainTree, moment: u64) -> Change {
     let folder = plain.folder_from(below(chances, FOLDERS));
     let name = some_name(chances);
     let length = chances.next_u32();
@@ -99,7 +112,7 @@ fn choose(chances: &mut Pcg32, plain: &PlainTree) -> Change {
     if node == 0 {
         return Change::Folder { folder, name };
     }
-    match below(chances, 10) {
+    match some_sort(chances, moment) {
         0..=2 => Change::File {
             folder,
             name,
@@ -114,7 +127,8 @@ fn choose(chances: &mut Pcg32, plain: &PlainTree) -> Change {
     }
 }
 
-fn make_folder<L: Ledger>(
+/// Makes a folder in one that there is.
+pub fn make_folder<L: Ledger>(
     tree: &mut Tree,
     end: &impl Abort,
     folder: u32,
@@ -129,7 +143,8 @@ fn make_folder<L: Ledger>(
     tree.mkdir(folder, name, 1, moment, steps)
 }
 
-fn make_file<L: Ledger>(
+/// Makes a file in a folder that there is.
+pub fn make_file<L: Ledger>(
     tree: &mut Tree,
     end: &impl Abort,
     folder: u32,
@@ -190,7 +205,8 @@ fn move_node<L: Ledger>(
     Ok(node)
 }
 
-fn remove<L: Ledger>(
+/// Removes a node that there is.
+pub fn remove<L: Ledger>(
     tree: &mut Tree,
     end: &impl Abort,
     node: u32,
@@ -242,9 +258,18 @@ fn change_both<L: Ledger>(
 )
     requires { moment ≤ latest_moment }
 {
-    let chosen = choose(chances, plain);
+    let chosen = choose(chances, plain, moment);
     let answer = change(tree, end, chosen, moment, steps);
     assert!(end; answer == plain.change(chosen, moment));
+}
+
+// Puts the late nodes into the order, now and then.
+fn arrange_by_chance(tree: &mut Tree, chances: &mut Pcg32) {
+    match below(chances, 100) {
+        0 | 1 => tree.arrange(),
+        2 => tree.arrange_if_many(),
+        _ => {}
+    }
 }
 
 // Whether both find the same child of a name.
@@ -259,6 +284,28 @@ fn find_same<L: Ledger>(
     tree.child(folder, name, steps) == plain.child(folder, name)
 }
 
+// The child that stands at a place, if there are so many.
+fn child_at<L: Ledger>(tree: &Tree, folder: u32, place: u32, steps: &mut Steps<L>) -> Option<u32> {
+    if place < tree.child_count(folder, steps) {
+        Some(tree.child_at(folder, place, steps))
+    } else {
+        None
+    }
+}
+
+// Whether both have as many children in a folder, and the same one at a place.
+fn count_same<L: Ledger>(
+    tree: &Tree,
+    plain: &PlainTree,
+    chances: &mut Pcg32,
+    steps: &mut Steps<L>,
+) -> bool {
+    let folder = below(chances, FOLDERS);
+    let place = below(chances, PLACES);
+    tree.child_count(folder, steps) as usize == plain.child_count(folder)
+        && child_at(tree, folder, place, steps) == plain.child_at(folder, place)
+}
+
 fn push_numbers(numbers: &mut Vec<u32>, siblings: &Siblings<'_>) -> Result<(), Fail> {
     for place in 0..siblings.len() {
         numbers.push(siblings.number(place))?;
@@ -266,8 +313,8 @@ fn push_numbers(numbers: &mut Vec<u32>, siblings: &Siblings<'_>) -> Result<(), F
     Ok(())
 }
 
-// The numbers of a folder's children.
-fn numbers<L: Ledger>(
+/// The numbers of a folder's children.
+pub fn numbers<L: Ledger>(
     tree: &Tree,
     alloc: Global,
     folder: u32,
@@ -308,6 +355,18 @@ fn are_same<L: Ledger>(
     Ok(plain.are_all(rows.as_slice()) && have_same_children(tree, plain, alloc, steps)?)
 }
 
+// The same while nodes are late, and when none is.
+fn stay_same<L: Ledger>(
+    tree: &mut Tree,
+    plain: &PlainTree,
+    alloc: Global,
+    steps: &mut Steps<L>,
+) -> Result<bool, Fail> {
+    let same = are_same(tree, plain, alloc, steps)?;
+    tree.arrange();
+    Ok(same && are_same(tree, plain, alloc, steps)?)
+}
+
 fn changes<L: Ledger>(
     tree: &mut Tree,
     plain: &mut PlainTree,
@@ -318,20 +377,46 @@ fn changes<L: Ledger>(
     let mut chances = chances();
     for moment in 0..CHANGES {
         change_both(tree, plain, end, &mut chances, moment, steps);
+        arrange_by_chance(tree, &mut chances);
         assert!(end; find_same(tree, plain, &mut chances, steps));
+        assert!(end; count_same(tree, plain, &mut chances, steps));
         if moment % 500 == 0 {
-            assert!(end; are_same(tree, plain, alloc, steps)?);
+            assert!(end; stay_same(tree, plain, alloc, steps)?);
         }
     }
-    assert!(end; are_same(tree, plain, alloc, steps)?);
+    assert!(end; stay_same(tree, plain, alloc, steps)?);
     Ok(())
+}
+
+// The same changes of a tree that is made of rows: all of its nodes are late at first.
+fn changes_of_rows<L: Ledger>(
+    rows: &List<NodeRow>,
+    plain: &mut PlainTree,
+    alloc: Global,
+    end: &impl Abort,
+    steps: &mut Steps<L>,
+) -> Result<(), Fail> {
+    let mut tree = Tree::from_rows(alloc, rows, SIZE)?;
+    changes(&mut tree, plain, alloc, end, steps)
+}
+
+fn changes_and_more<L: Ledger>(
+    tree: &mut Tree,
+    plain: &mut PlainTree,
+    alloc: Global,
+    end: &impl Abort,
+    steps: &mut Steps<L>,
+) -> Result<(), Fail> {
+    changes(tree, plain, alloc, end, steps)?;
+    let rows = tree.to_rows(alloc, steps)?;
+    changes_of_rows(&rows, plain, alloc, end, steps)
 }
 
 // A function that owns a tree is dear to prove by each of its statements, so this one has three.
 fn new_trees<L: Ledger>(alloc: Global, end: &impl Abort, steps: &mut Steps<L>) -> Result<(), Fail> {
     let mut plain = PlainTree::new(alloc, SIZE)?;
     let mut tree = Tree::reserve(alloc, SIZE)?;
-    changes(&mut tree, &mut plain, alloc, end, steps)
+    changes_and_more(&mut tree, &mut plain, alloc, end, steps)
 }
 
 fn two_trees<N: Named>(rt: &HostRuntime, end: &impl Abort, blank: Blank) -> Result<(), Fail>

@@ -1,3 +1,3 @@
 pub mod kept
-pub mod ordering
 pub mod slotted
+pub mod late

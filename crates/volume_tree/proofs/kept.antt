@@ -1,4 +1,4 @@
-pub mod FirstLaws
+pub mod EnterLaws
 pub mod HeldLaws
 pub mod KeptLaws
 pub mod LookLaws

@@ -1,8 +1,9 @@
-pub mod Entries
 pub mod Hints
 pub mod Kept
+pub mod Late
 pub mod Looks
+pub mod Siblings
 pub mod Sound
+pub mod Twins
 pub mod Volume
-pub mod Shift
 pub mod Ways

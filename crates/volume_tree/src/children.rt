@@ -1,13 +1,17 @@
-//! A folder's children, lent a run at a time.
+//! A folder's children, lent a run at a time, or one by one where they don't stand in the order.
 
-ghost use Rattle.std.specs.Prelude.{◌≡◌, ◌+◌, ◌<◌, ◌≤◌, ◌++◌, IfSome, IfNone, length, slice_index, []};
+ghost use Rattle.std.specs.Prelude.{◌≡◌, ◌+◌, ◌<◌, ◌≤◌, ◌++◌, None, IfSome, IfNone, length, slice_index, []};
 ghost use Rattle.block_list.specs.Places.{IsGap, index_of};
-ghost use Rattle.block_list.specs.Runs.{entries_of, run_at};
-ghost use Rattle.volume_tree.specs.Kept.{numbers_from};
+ghost use Rattle.block_list.specs.Runs.{entries_of};
+ghost use Rattle.volume_tree.specs.Kept.{AreSlots, numbers_from, rows_of};
+ghost use Rattle.volume_tree.specs.Late.{AreApart};
+ghost use Rattle.volume_tree.specs.Siblings.{numbers_after};
 
-use crate::entries::{Entry, Order};
+use crate::unsettled::next_child;
 use block_list::Place;
 use fsrm_model::{Ledger, Steps};
+use node_order::{Entry, Order, entry_from};
+use node_table::NodeTable;
 use std::marker::Model;
 
 /// The numbers of a folder's children that are still to be lent, in the order of their folded names. Contracts see
@@ -17,32 +21,44 @@ pub struct Children<'t> {
     order: &'t Order,
     place: Place,
     left: usize,
+    // Where they are sought instead, if some nodes are late.
+    sought: Option<Sought<'t>>,
 }
 
 impl<'t> Model for Children<'t> {
     ghost use Rattle.std.specs.Prelude.{ℕ, List};
-    ghost use Rattle.volume_tree.specs.Kept.{IsLeft, numbers_from};
+    ghost use Rattle.volume_tree.specs.Siblings.{AreLeft, still_left};
 
     ghost Value = { List ℕ };
 
-    ghost view = { λ c. numbers_from c.order.now.runs c.place c.left };
+    ghost view = { λ c. still_left c.sought c.order.now.runs c.place c.left };
 
-    ghost invariant = { λ c. IsLeft c.order.now.runs c.place c.left };
+    ghost invariant = { λ c. AreLeft c.sought c.order.now.runs c.place c.left };
+}
+
+/// A folder whose children are sought in the table, and the child that was lent last.
+#[derive(Clone, Copy)]
+pub struct Sought<'t> {
+    pub slots: &'t NodeTable,
+    pub folder: u32,
+    pub last: Option<u32>,
 }
 
 /// Some children of a folder, one after the other, lent. Contracts see their numbers.
 #[derive(Drop)]
 pub struct Siblings<'t> {
     entries: &'t [Entry],
+    // The only one, if it was sought. Then there are no entries.
+    only: Option<u32>,
 }
 
 impl<'t> Model for Siblings<'t> {
-    ghost use Rattle.std.specs.Prelude.{ℕ, List, map};
-    ghost use Rattle.volume_tree.specs.Entries.{number_in};
+    ghost use Rattle.std.specs.Prelude.{ℕ, List};
+    ghost use Rattle.volume_tree.specs.Siblings.{siblings_of};
 
     ghost Value = { List ℕ };
 
-    ghost view = { λ s. map number_in s.entries.now };
+    ghost view = { λ s. siblings_of s.only s.entries.now };
 }
 
 impl<'t> Siblings<'t> {
@@ -50,7 +66,10 @@ impl<'t> Siblings<'t> {
     pub fn len(&self) -> usize
         ensures { result ≡ length self.now }
     {
-        self.entries.len()
+        match self.only {
+            Some(_) => 1,
+            None => self.entries.len(),
+        }
     }
 
     /// The number of the one at a place.
@@ -58,23 +77,11 @@ impl<'t> Siblings<'t> {
         requires { place < length self.now }
         ensures { result ≡ slice_index self.now place }
     {
+        if let Some(only) = self.only {
+            return only;
+        }
         let entries = self.entries;
         entries[place].node
-    }
-}
-
-/// The same place, but if it is the end of a run the beginning of the next one.
-pub fn entry_from(order: &Order, place: Place) -> Place
-    requires { IsGap order.now.runs place }
-    ensures index { index_of order.now.runs result ≡ index_of order.now.runs place }
-    ensures offset { 0 < result.offset → result.offset < length (run_at order.now.runs result.run) }
-{
-    if place.run >= order.run_count() || place.offset < order.run(place.run).len() {
-        return place;
-    }
-    Place {
-        run: place.run + 1,
-        offset: 0,
     }
 }
 
@@ -86,7 +93,30 @@ impl<'t> Children<'t> {
         ensures { result ≡ numbers_from order.now.runs place left }
     {
         let place = entry_from(order, place);
-        Children { order, place, left }
+        Children {
+            order,
+            place,
+            left,
+            sought: None,
+        }
+    }
+
+    // All children of a folder, sought in the table.
+    pub(crate) fn sought(order: &'t Order, slots: &'t NodeTable, folder: u32) -> Children<'t>
+        requires slots { AreSlots 0 slots.now.slots }
+        requires apart { AreApart (rows_of slots.now.slots) }
+        ensures { result ≡ numbers_after (rows_of slots.now.slots) folder None }
+    {
+        Children {
+            order,
+            place: Place { run: 0, offset: 0 },
+            left: 0,
+            sought: Some(Sought {
+                slots,
+                folder,
+                last: None,
+            }),
+        }
     }
 
     /// The next children, as many as stand in one run, at least one. None exactly if none is left. It takes a look
@@ -98,6 +128,18 @@ impl<'t> Children<'t> {
         ensures rest { IfNone result (self.new ≡ []) }
         ensures count { steps.new + length self.new ≡ steps.old + length self.old }
     {
+        if let Some(sought) = self.sought {
+            let number = next_child(sought.slots, sought.folder, sought.last)?;
+            steps.tick();
+            self.sought = Some(Sought {
+                last: Some(number),
+                ..sought
+            });
+            return Some(Siblings {
+                entries: &[],
+                only: Some(number),
+            });
+        }
         if self.left == 0 {
             return None;
         }
@@ -113,6 +155,9 @@ impl<'t> Children<'t> {
         };
         self.place = entry_from(order, end);
         let entries = &rest[..few];
-        Some(Siblings { entries })
+        Some(Siblings {
+            entries,
+            only: None,
+        })
     }
 }

@@ -10,15 +10,16 @@ ghost use Rattle.node_table.specs.Views.{seen};
 ghost use Rattle.volume_tree.specs.Volume.{new_fault, with_node};
 
 use crate::answer::TreeFault;
-use crate::entries::Entry;
 use crate::finger::Finger;
-use crate::new_names::search_new;
+use crate::lookup::child;
 use crate::slots;
 use crate::tree::Tree;
-use crate::vacancy::new_place;
 use fsrm_model::{Ledger, Steps};
-use name_rules::fold_prefix;
+use name_index::hash_of;
 use node_table::NodeView;
+
+/// The looks that put a node into the order of names, now or when the late nodes are. They are counted in advance.
+pub(crate) const ENTERING: usize = 21;
 
 // What a new node is, beside its place. A folder has no length.
 #[derive(Clone, Copy)]
@@ -49,7 +50,7 @@ impl NewNode {
 
 impl Tree {
     /// Makes a folder in a folder, and gives its number, the least that is free. It takes no more
-    /// than 44 looks.
+    /// than 43 looks.
     ///
     /// It is refused if the folder has a child of this name, else if the volume is full, else
     /// if the names are. An `Err` changes nothing.
@@ -71,14 +72,14 @@ impl Tree {
         ensures refused { IfErr result (λ fault. new_fault self.old folder name.now ≡ Some fault) }
         ensures err { OnErr result (self.new ≡ self.old) }
         ensures kept { IsVolume self.new.size self.new.nodes }
-        ensures looks { steps.new ≤ steps.old + 44 }
+        ensures looks { steps.new ≤ steps.old + 43 }
     {
         let vacancy = self.may_create(folder, name, steps)?;
         Ok(self.make_folder(folder, name, vacancy, owner, moment, steps))
     }
 
     /// Makes a file of so many bytes in a folder, and gives its number, the least that is free. It
-    /// takes no more than 44 looks.
+    /// takes no more than 43 looks.
     ///
     /// It is refused as `mkdir` is. An `Err` changes nothing.
     pub fn create<L: Ledger>(
@@ -101,14 +102,14 @@ impl Tree {
         ensures refused { IfErr result (λ fault. new_fault self.old folder name.now ≡ Some fault) }
         ensures err { OnErr result (self.new ≡ self.old) }
         ensures kept { IsVolume self.new.size self.new.nodes }
-        ensures looks { steps.new ≤ steps.old + 44 }
+        ensures looks { steps.new ≤ steps.old + 43 }
     {
         let vacancy = self.may_create(folder, name, steps)?;
         Ok(self.make_file(folder, name, vacancy, length, owner, moment, steps))
     }
 
     /// The first half of `mkdir` and `create`: all that can refuse a new node of this name in a folder.
-    /// It gives where the node is to stand. It takes no more than 21 looks.
+    /// It gives where the node might stand. It takes no more than 22 looks.
     ///
     /// It is refused as they are.
     pub fn may_create<L: Ledger>(
@@ -121,10 +122,10 @@ impl Tree {
         ensures fault { IfErr result (λ fault. new_fault self.now folder name.now ≡ Some fault) }
         ensures kept { IsVolume self.now.size self.now.nodes }
         ensures some { steps.old + 1 ≤ steps.new }
-        ensures looks { steps.new ≤ steps.old + 21 }
+        ensures looks { steps.new ≤ steps.old + 22 }
     {
         let size = self.size;
-        let place = match search_new(&self.slots, &self.order, folder, name, steps) {
+        let place = match child(&self.slots, &self.register, folder, name, false, steps) {
             Ok(_) => return Err(TreeFault::AlreadyExists),
             Err(place) => place,
         };
@@ -138,8 +139,8 @@ impl Tree {
     }
 
     /// The second half of `mkdir`: makes a folder that the tree has nothing against, and gives its number, the least
-    /// that is free. It can't fail. `vacancy` is what `may_create` answered: where to look first. It takes no more than
-    /// 23 looks.
+    /// that is free. It can't fail. `vacancy` is what `may_create` answered: where to look first. It counts 21
+    /// looks, which put the node into the order of names, at once or when the tree is arranged.
     pub fn make_folder<L: Ledger>(
         &mut self,
         folder: u32,
@@ -157,7 +158,7 @@ impl Tree {
         ensures number { result ≡ fresh self.old.nodes }
         ensures made { self.new ≡ with_node self.old (made_node self.old.nodes folder name.now true 0 owner moment) }
         ensures kept { IsVolume self.new.size self.new.nodes }
-        ensures looks { steps.new ≤ steps.old + 23 }
+        ensures count { steps.new ≡ steps.old + 21 }
     {
         let new = NewNode {
             folder: true,
@@ -169,8 +170,8 @@ impl Tree {
     }
 
     /// The second half of `create`: makes a file that the tree has nothing against, and gives its number, the least
-    /// that is free. It can't fail. `vacancy` is what `may_create` answered: where to look first. It takes no more than
-    /// 23 looks.
+    /// that is free. It can't fail. `vacancy` is what `may_create` answered: where to look first. It counts 21
+    /// looks, which put the node into the order of names, at once or when the tree is arranged.
     pub fn make_file<L: Ledger>(
         &mut self,
         folder: u32,
@@ -190,7 +191,7 @@ impl Tree {
         ensures number { result ≡ fresh self.old.nodes }
         ensures made { self.new ≡ with_node self.old (made_node self.old.nodes folder name.now false length owner moment) }
         ensures kept { IsVolume self.new.size self.new.nodes }
-        ensures looks { steps.new ≤ steps.old + 23 }
+        ensures count { steps.new ≡ steps.old + 21 }
     {
         let new = NewNode {
             folder: false,
@@ -219,21 +220,16 @@ impl Tree {
         ensures number { result ≡ fresh self.old.nodes }
         ensures made { self.new ≡ with_node self.old (made_node self.old.nodes folder name.now new.folder new.length new.owner new.moment) }
         ensures kept { IsVolume self.new.size self.new.nodes }
-        ensures looks { steps.new ≤ steps.old + 23 }
+        ensures count { steps.new ≡ steps.old + 21 }
     {
-        let near = vacancy.place();
-        let prefix = fold_prefix(name);
-        let place = new_place(&self.slots, &self.order, folder, prefix, name, near, steps);
+        steps.count(ENTERING);
         let number = slots::next_number(&self.slots, &self.holes);
-        self.hints.enter(folder, name, number, new.folder);
-        let entry = Entry {
-            prefix,
-            parent: folder,
-            node: number,
-        };
-        self.slots.put(&new.view(number, folder, name));
+        let row = new.view(number, folder, name);
+        self.slots.put(&row);
         self.holes.remove(number);
-        self.order.insert(place, entry);
+        let hash = hash_of(folder, name);
+        self.register
+            .enter(&self.slots, &row, hash, vacancy.place());
         self.count += 1;
         self.used += name.len() as u32;
         number

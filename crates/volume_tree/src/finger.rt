@@ -3,8 +3,8 @@
 use block_list::Place;
 
 /// A place among a volume's nodes that is kept from one call to the next: after the children that were lent, or where
-/// `may_create` found no node of a name. The next search ends at once if it would end there; what it finds is the same
-/// wherever the finger is.
+/// `may_create` saw that a node of a name might stand. The next search ends at once if it would end there; what it finds
+/// is the same wherever the finger is.
 #[derive(Clone, Copy, Debug, Default, PartialEq, Eq)]
 pub struct Finger {
     run: usize,

@@ -1,17 +1,18 @@
 //! The tree of a volume's folders and files.
 //!
-//! The entries of all nodes are kept in the order of their places, by folder and folded name, in the runs of a list in
-//! blocks. A search halves the runs' first entries and then one run, and ends where it finds the name: at no more than
-//! 14 and 7 looks. An entry has the folder and the first characters of the name, so that a look seldom reads the node's
-//! row, which stands in the slot of its number. A new node moves the entries of at most two blocks. Which node has a
-//! name in a folder is guessed first, so that most searches take one look, at the node that is guessed. A new name is
-//! sought first behind those of its folder that begin as it does: if it comes there, that takes one look, too. Contracts
-//! see a tree as its capacity and its nodes in the order of their numbers.
+//! A node's row stands in the slot of its number. By names nodes are found in a register, which has an index of all
+//! names and an order of places, by folders and folded names. The index tells at once of most names which node has them,
+//! or that none has. Where it has lost some, the order is searched.
+//!
+//! A new node is *late* at first: `Tree::arrange` puts the entries of late nodes into the order, many of them at once.
+//! Until then the index leads to the node; one that the index loses goes into the order at once. So names are found
+//! whether or not nodes are late, and whoever asks for children calls `Tree::arrange` first. Contracts see a
+//! tree as its capacity and its nodes in the order of their numbers: nothing that a tree answers tells which are late.
 //!
 //! A call counts the nodes that it reads, compares or lends as looks. But `children`, `child_count` and `child_at` count
-//! one look for the call, whatever entries they compare to find where a folder's children stand in the order; nor does
-//! `may_create` count the entries that it compares to find which names begin as the new one does. No other call reads a
-//! node that it doesn't count, but those that make a tree of rows.
+//! one look for the call, whatever entries they compare to find where a folder's children stand. A node that is made or
+//! moved counts 21 looks, which put it into the order: then, or when the tree is arranged. No other call reads
+//! a node that it doesn't count, but those that make a tree of rows, whose nodes are all late.
 //!
 //! All memory is taken when a tree is made, and again only for copies of its rows.
 #![tactic(auto)]
@@ -19,24 +20,18 @@
 mod answer;
 mod children;
 mod climb;
-mod compare;
 mod creations;
-mod entries;
-mod entry;
 mod finger;
-mod gallop;
 mod hints;
+mod listing;
 mod lookup;
 mod moves;
-mod new_names;
-mod order;
-mod placed;
 mod reads;
+mod register;
 mod rows;
-mod segment;
 mod slots;
 mod tree;
-mod vacancy;
+mod unsettled;
 mod way_up;
 
 pub use answer::{RowsFault, TreeFault};

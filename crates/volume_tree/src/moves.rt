@@ -5,15 +5,17 @@ ghost use Rattle.fsrm_base.specs.Keyed.{has_row};
 ghost use Rattle.fsrm_model.specs.values.Name.{is_name};
 ghost use Rattle.fsrm_model.specs.nodes.Tree.{number as key, is_folder, chain};
 ghost use Rattle.fsrm_model.specs.store.Valid.{IsVolume};
-ghost use Rattle.volume_tree.specs.Volume.{move_fault, with_place};
+ghost use Rattle.volume_tree.specs.Volume.{is_other, move_fault, with_place};
 
 use crate::answer::TreeFault;
 use crate::climb::is_at_or_below;
-use crate::entries::Entry;
-use crate::entry::{is_other, reorder};
+use crate::creations::ENTERING;
+use crate::lookup::child;
 use crate::tree::Tree;
-use crate::{order, reads, slots};
+use crate::{reads, slots};
+use block_list::Place;
 use fsrm_model::{Ledger, Steps};
+use name_index::hash_of;
 use std::marker::Model;
 
 /// A move that a tree had nothing against, with the name that it gives, lent. It has changed nothing yet.
@@ -33,6 +35,16 @@ impl<'a> Model for ReadyMove<'a> {
     ghost Value = { Move };
 
     ghost view = { λ m. record { node = m.node; folder = m.folder; name = m.name.now } };
+}
+
+// Whether the node that was found is another one.
+fn is_other(found: Option<u32>, node: u32) -> bool
+    ensures { result ≡ is_other found node }
+{
+    match found {
+        Some(other) => other != node,
+        None => false,
+    }
 }
 
 impl Tree {
@@ -66,7 +78,7 @@ impl Tree {
     }
 
     /// The first half of `move_node`: all that can refuse a move. It changes nothing, and the same tree can
-    /// then make the move. It takes no more than 22 looks, and one for each node from the folder up to the
+    /// then make the move. It takes no more than 23 looks, and one for each node from the folder up to the
     /// root.
     ///
     /// It is refused as `move_node` is.
@@ -86,13 +98,13 @@ impl Tree {
         ensures refused { IfErr result (λ fault. move_fault self.now node folder name.now ≡ Some fault) }
         ensures volume { OnOk result (IsVolume self.now.size (with_place self.now node folder name.now).nodes) }
         ensures kept { IsVolume self.now.size self.now.nodes }
-        ensures looks { steps.new ≤ steps.old + (22 + length (chain self.now.nodes folder)) }
+        ensures looks { steps.new ≤ steps.old + (23 + length (chain self.now.nodes folder)) }
     {
         if is_at_or_below(&self.slots, node, folder, steps) {
             return Err(TreeFault::InvalidMove);
         }
-        let found = order::search(&self.slots, &self.order, folder, name, steps);
-        if is_other(&self.order, found, node) {
+        let found = child(&self.slots, &self.register, folder, name, false, steps).ok();
+        if is_other(found, node) {
             return Err(TreeFault::AlreadyExists);
         }
         let old_bytes = slots::name_length(&self.slots, node, steps);
@@ -104,7 +116,7 @@ impl Tree {
     }
 
     /// The second half of `move_node`: makes a move that is ready, and that the tree still has nothing
-    /// against. It can't fail. It takes no more than 44 looks.
+    /// against. It can't fail. It takes no more than 43 looks.
     pub fn make_move<L: Ledger>(&mut self, ready: ReadyMove<'_>, steps: &mut Steps<L>)
         requires there { has_row key ready.node self.old.nodes ≡ true }
         requires inner { (ready.node == 0) ≡ false }
@@ -113,18 +125,20 @@ impl Tree {
         requires may { move_fault self.old ready.node ready.folder ready.name ≡ None }
         ensures made { self.new ≡ with_place self.old ready.entry.node ready.entry.folder ready.entry.name }
         ensures kept { IsVolume self.new.size self.new.nodes }
-        ensures looks { steps.new ≤ steps.old + 44 }
+        ensures looks { steps.new ≤ steps.old + 43 }
     {
         let ReadyMove { node, folder, name } = ready;
-        // The place isn't kept from the first half, since other places may have moved since.
-        let found = order::search(&self.slots, &self.order, folder, name, steps);
-        let entry = Entry::at(node, folder, name);
-        reorder(&self.slots, &mut self.order, entry, found, steps);
         let bytes = name.len() as u32;
+        self.register.arrange_if_many(&self.slots);
         let row = reads::node(&self.slots, node, steps);
         let old_bytes = row.name.len() as u32;
-        self.hints.follow(&row, folder, name);
+        self.register.leave(&self.slots, &row, steps);
         self.slots.set_place(node, folder, name);
+        steps.count(ENTERING);
+        let moved = self.slots.node(node);
+        let hash = hash_of(folder, name);
+        self.register
+            .enter(&self.slots, &moved, hash, Place { run: 0, offset: 0 });
         self.used = self.used - old_bytes + bytes;
     }
 }

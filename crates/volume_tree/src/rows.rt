@@ -1,24 +1,33 @@
 //! A tree's nodes as rows, and the parts of a tree from rows.
 
-ghost use Rattle.std.specs.Prelude.{◌≡◌, ◌+◌, ◌≤◌, ◌&&◌, IfOk, OnOk, IsErrOf, MatchOption, true, false, length, nat_le, map, ◌<◌, ℕ, MatchBool, slice_index_or, slice_set};
-ghost use Rattle.std.specs.List.{IsAllAdjacentAnswer, list_all};
-ghost use Rattle.std.specs.List.Sorted.{IsPermutation, IsSortedBy};
-ghost use Rattle.fsrm_base.specs.Keyed.{has_row, is_ascending};
-ghost use Rattle.fsrm_model.specs.nodes.Tree.{number as key, parent_of, is_folder, is_under, name_bytes};
-ghost use Rattle.fsrm_model.specs.store.Valid.{is_tree, is_moment, is_own, is_root_node};
-ghost use Rattle.block_list.specs.Runs.{entries_of};
-ghost use Rattle.volume_tree.specs.Entries.{AreOwn, entry_of};
-ghost use Rattle.volume_tree.specs.Kept.{AreSlots, IsFilled, IsHeld, IsOrder, inner, is_before, rows_of};
-ghost use Rattle.volume_tree.specs.Sound.{AreMarks, HasTwins, Reaches, are_from, are_sound, is_in_range, is_placed};
+ghost use Rattle.std.specs.Prelude.{◌≡◌, ℕ, ◌+◌, ◌<◌, ◌≤◌, ◌==◌, ◌&&◌, ◌∷◌, [], List, IfOk, OnOk, IsErrOf, MatchBool, MatchOption, Some, true, false, length, nat_le, not, slice_index_or, slice_set};
+ghost use Rattle.std.specs.List.{list_all};
+ghost use Rattle.fsrm_base.specs.Keyed.{has_row};
+ghost use Rattle.fsrm_base.specs.Numbers.{is_in};
+ghost use Rattle.fsrm_model.specs.nodes.Tree.{number as key, node_of, parent_of, is_folder, is_under, name_bytes};
 ghost use Rattle.fsrm_model.specs.store.Capacities.{is_capacity};
+ghost use Rattle.fsrm_model.specs.store.Valid.{is_tree, is_moment, is_own, is_root_node};
+ghost use Rattle.fsrm_model.specs.values.Limits.{most_nodes};
+ghost use Rattle.block_list.specs.Runs.{entries_of};
+ghost use Rattle.name_index.specs.Hash.{name_hash};
+ghost use Rattle.name_index.specs.Index.{Holds};
+ghost use Rattle.node_order.specs.Entries.{AreOwn};
+ghost use Rattle.node_order.specs.Order.{IsListed, LacksName, has_name};
+ghost use Rattle.node_table.specs.Views.{seen};
+ghost use Rattle.volume_tree.specs.Kept.{AreSlots, IsFilled, IsHeld, rows_of};
+ghost use Rattle.volume_tree.specs.Late.{AreApart, IsRegister};
+ghost use Rattle.volume_tree.specs.Sound.{AreMarks, HasTwins, Reaches, are_from, are_sound, is_in_range, is_placed};
+ghost use Rattle.volume_tree.specs.Twins.{AreApartBut, IsFree, IsTwin};
 
 use crate::answer::RowsFault;
-use crate::entries::Order;
-use crate::placed::{Placed, compare, compare_unread, is_alike};
-use crate::slots::{holes_in, is_there, row};
+use crate::register::Register;
+use crate::slots::{has_name, holes_in, is_there, row};
+use block_list::Place;
 use fsrm_model::limits::{LATEST_MOMENT, LONGEST_FILE};
 use fsrm_model::{Capacity, NoMemory, NodeRow};
+use name_index::{Index, hash_of};
 use name_rules::is_name;
+use node_order::{Entry, Order, entry_at, late_place};
 use node_table::{NodeTable, NodeView};
 use number_set::NumberSet;
 use std::alloc::Global;
@@ -28,8 +37,8 @@ use std::alloc::Global;
 pub struct Parts {
     /// Each row in the slot of its number.
     pub slots: NodeTable,
-    /// The entries of all rows but the root, by folders and in each by folded names.
-    pub order: Order,
+    /// All rows but the root by their names.
+    pub register: Register,
     /// How many rows there are, and the bytes of all their names.
     pub count: u32,
     pub used: u32,
@@ -41,7 +50,7 @@ pub struct Parts {
 /// volume of this size.
 pub fn read(alloc: Global, rows: &[NodeRow], size: Capacity) -> Result<Parts, RowsFault>
     requires { is_capacity size ≡ true }
-    ensures kept { IfOk result (λ made. IsHeld size made.count made.used made.holes made.slots made.order) }
+    ensures kept { IfOk result (λ made. IsHeld size made.count made.used made.holes made.slots made.register) }
     ensures nodes { IfOk result (λ made. rows_of made.slots.slots ≡ rows.now) }
     ensures may { OnOk result (is_tree size rows.now ≡ true) }
     ensures bad { IsErrOf result RowsFault.BadRows → is_tree size rows.now ≡ false }
@@ -50,14 +59,14 @@ pub fn read(alloc: Global, rows: &[NodeRow], size: Capacity) -> Result<Parts, Ro
         return Err(RowsFault::BadRows);
     };
     let slots = sound_slots(alloc, rows, size)?;
-    let order = order_of(alloc, rows, size.nodes)?;
+    let register = register_of(alloc, rows, &slots, size.nodes)?;
     let holes = match holes_in(alloc, &slots, size.nodes) {
         Ok(holes) => holes,
         Err(NoMemory) => return Err(RowsFault::NoMemory),
     };
     Ok(Parts {
         slots,
-        order,
+        register,
         count: rows.len() as u32,
         used,
         holes,
@@ -312,105 +321,111 @@ fn name_bytes(rows: &[NodeRow], most: u32) -> Option<u32>
     Some(most - left as u32)
 }
 
-// The entries of all rows but the root in the order of their places, with room for so many. The rows are bad exactly
-// if two children of a folder have one name.
-fn order_of(alloc: Global, rows: &[NodeRow], room: u32) -> Result<Order, RowsFault>
-    requires ascending { is_ascending key rows.now ≡ true }
-    requires room { length rows.now ≤ room }
-    ensures order { IfOk result (λ order. IsOrder rows.now (entries_of order.runs)) }
-    ensures entries { IfOk result (λ order. AreOwn rows.now order) }
-    ensures room { IfOk result (λ order. order.room ≡ room) }
+// A register of all rows but the root, with room for so many nodes. The rows are bad exactly if two children of a folder
+// have one name.
+fn register_of(
+    alloc: Global,
+    rows: &[NodeRow],
+    slots: &NodeTable,
+    most: u32,
+) -> Result<Register, RowsFault>
+    requires slots { AreSlots 0 slots.now.slots }
+    requires rows { rows_of slots.now.slots ≡ rows.now }
+    requires root { has_row key 0 rows.now ≡ true }
+    requires room { length rows.now ≤ most }
+    requires most { most ≤ most_nodes }
+    ensures register { IfOk result (IsRegister rows.now []) }
+    ensures room { IfOk result (λ register. register.order.room ≡ most) }
+    ensures apart { OnOk result (AreApart rows.now) }
     ensures bad { IsErrOf result RowsFault.BadRows → HasTwins rows.now }
 {
-    let mut entries = match inner(alloc, rows) {
-        Ok(entries) => entries,
+    let mut register = match Register::reserve(alloc, most, rows.len() as u32) {
+        Ok(register) => register,
         Err(NoMemory) => return Err(RowsFault::NoMemory),
     };
-    if !put_in_order(&mut entries) {
-        return Err(RowsFault::BadRows);
+    // The first row is the root.
+    let others = &rows[1..];
+    for row in others {
+        if !enter_alone(&mut register, slots, row.number) {
+            return Err(RowsFault::BadRows);
+        }
     }
-    match listed(alloc, &entries, room) {
-        Ok(order) => Ok(order),
-        Err(NoMemory) => Err(RowsFault::NoMemory),
-    }
+    Ok(register)
 }
 
-// Sorts rows by folders and in each folder by folded names. Answers whether each stands before the next. A name is far
-// from the next one in memory: so rows are sorted without a look at their names first, and then those by their names
-// that begin alike, unless these were given in their order.
-fn put_in_order(entries: &mut [Placed<'_>]) -> bool
-    ensures all { IsPermutation entries.old entries.new }
-    ensures apart { IsAllAdjacentAnswer (λ a b answer. answer ≡ is_before a.row.now b.row.now.parent b.row.now.name) entries.new result }
-    ensures sorted { result ≡ false → IsSortedBy (λ a b. is_before a.row.now b.row.now.parent b.row.now.name) entries.new }
+// Enters a node that is absent, unless another one that was entered has its name. Answers whether it did.
+fn enter_alone(register: &mut Register, slots: &NodeTable, number: u32) -> bool
+    requires slots { AreSlots 0 slots.now.slots }
+    requires there { has_row key number (rows_of slots.now.slots) ≡ true }
+    requires inner { (number == 0) ≡ false }
+    requires absent { (rest : List ℕ) × IsRegister (rows_of slots.now.slots) (number ∷ rest) register.old }
+    ensures entered { result ≡ true → (rest : List ℕ) → IsRegister (rows_of slots.now.slots) (number ∷ rest) register.old → IsRegister (rows_of slots.now.slots) rest register.new }
+    ensures apart { result ≡ true → (rest : List ℕ) → IsRegister (rows_of slots.now.slots) (number ∷ rest) register.old → AreApartBut (rows_of slots.now.slots) (number ∷ rest) → AreApartBut (rows_of slots.now.slots) rest }
+    ensures twins { result ≡ false → HasTwins (rows_of slots.now.slots) }
+    ensures room { register.new.order.room ≡ register.old.order.room }
 {
-    entries.sort_unstable_by(|a, b| compare_unread(a, b));
-    if are_apart(entries) {
+    let row = slots.node(number);
+    let hash = hash_of(row.parent, row.name);
+    if has_twin(register, slots, &row, hash) {
+        return false;
+    }
+    register.enter(slots, &row, hash, Place { run: 0, offset: 0 });
+    true
+}
+
+// Whether a node that was entered has the name of one that is absent.
+fn has_twin(register: &Register, slots: &NodeTable, row: &NodeView<'_>, hash: u32) -> bool
+    requires slots { AreSlots 0 slots.now.slots }
+    requires there { node_of (rows_of slots.now.slots) row.now.number ≡ Some (seen row.now) }
+    requires inner { (row.now.number == 0) ≡ false }
+    requires hash { hash ≡ name_hash row.now.parent row.now.name.now }
+    requires absent { (rest : List ℕ) × IsRegister (rows_of slots.now.slots) (row.now.number ∷ rest) register.now }
+    ensures twins { result ≡ true → HasTwins (rows_of slots.now.slots) }
+    ensures free { result ≡ false → (rest : List ℕ) → IsRegister (rows_of slots.now.slots) (row.now.number ∷ rest) register.now → IsFree (rows_of slots.now.slots) (row.now.number ∷ rest) row.now.parent row.now.name.now }
+{
+    if holds_twin(&register.index, slots, row, hash) {
         return true;
     }
-    sort_alike(entries);
-    if are_apart(entries) {
-        return true;
+    if !register.index.has_lost(hash) {
+        return false;
     }
-    // Two names are the same.
-    entries.sort_unstable_by(|a, b| compare(a, b));
-    are_apart(entries)
+    lists_twin(&register.order, slots, row)
 }
 
-// Sorts neighbours by their names that have one folder and begin alike.
-fn sort_alike(entries: &mut [Placed<'_>])
-    ensures { IsPermutation entries.old entries.new }
+// Whether the node that the index leads to is another one of the same name.
+fn holds_twin(index: &Index, slots: &NodeTable, row: &NodeView<'_>, hash: u32) -> bool
+    requires { AreSlots 0 slots.now.slots }
+    ensures twin { result ≡ true → IsTwin (rows_of slots.now.slots) row.now }
+    ensures none { result ≡ false → (n : ℕ) → Holds index.now hash n → (n == row.now.number) ≡ false → has_name (rows_of slots.now.slots) n row.now.parent row.now.name.now ≡ false }
 {
-    let mut from = 0;
-    while from < entries.len() {
-        let end = alike_end(entries, from);
-        entries[from..end].sort_unstable_by(|a, b| compare(a, b));
-        from = end;
+    match index.find(hash) {
+        Some(number) => is_twin(slots, number, row),
+        None => false,
     }
 }
 
-// Where the rows end that begin as this one does, in the same folder.
-fn alike_end(entries: &[Placed<'_>], from: usize) -> usize
-    requires { from < length entries.now }
-    ensures more { from < result }
-    ensures within { result ≤ length entries.now }
+// Whether a node that stands in the order has the name of one that doesn't.
+fn lists_twin(order: &Order, slots: &NodeTable, row: &NodeView<'_>) -> bool
+    requires slots { AreSlots 0 slots.now.slots }
+    requires order { IsListed (rows_of slots.now.slots) (entries_of order.now.runs) }
+    requires entries { AreOwn (rows_of slots.now.slots) order.now }
+    requires there { node_of (rows_of slots.now.slots) row.now.number ≡ Some (seen row.now) }
+    requires other { is_in (entries_of order.now.runs) row.now.number ≡ false }
+    ensures twin { result ≡ true → IsTwin (rows_of slots.now.slots) row.now }
+    ensures none { result ≡ false → LacksName (rows_of slots.now.slots) (entries_of order.now.runs) row.now.parent row.now.name.now }
 {
-    let first = entries[from];
-    let mut end = from + 1;
-    while end < entries.len() && is_alike(&entries[end], &first) {
-        end += 1;
+    let entry = Entry::at(row.number, row.parent, row.name);
+    let place = late_place(slots, order, entry, Place { run: 0, offset: 0 });
+    match entry_at(order, place) {
+        Some(other) => is_twin(slots, other.node, row),
+        None => false,
     }
-    end
 }
 
-// All rows but the root.
-fn inner(alloc: Global, rows: &[NodeRow]) -> Result<Vec<Placed<'_>>, NoMemory>
-    ensures { IfOk result (λ entries. map (λ p. p.row.now) entries.items ≡ inner rows.now) }
+// Whether a number is that of another node of the same name, and not the root's.
+fn is_twin(slots: &NodeTable, number: u32, row: &NodeView<'_>) -> bool
+    requires { AreSlots 0 slots.now.slots }
+    ensures { result ≡ not (number == row.now.number) && has_name (rows_of slots.now.slots) number row.now.parent row.now.name.now }
 {
-    let entries = rows
-        .iter()
-        .filter(|row| row.number != 0)
-        .map(|row| Placed::of(row))
-        .collect(alloc)?;
-    Ok(entries)
-}
-
-// Whether each entry stands before the next.
-fn are_apart(entries: &[Placed<'_>]) -> bool
-    ensures { IsAllAdjacentAnswer (λ a b answer. answer ≡ is_before a.row.now b.row.now.parent b.row.now.name) entries.now result }
-{
-    entries.is_sorted_by(|a, b| compare(a, b).is_lt())
-}
-
-// The entries of these rows, with room for so many.
-fn listed(alloc: Global, rows: &[Placed<'_>], room: u32) -> Result<Order, NoMemory>
-    requires { length rows.now ≤ room }
-    ensures numbers { IfOk result (λ order. entries_of order.runs ≡ map (λ p. p.row.now.number) rows.now) }
-    ensures entries { IfOk result (λ order. order.entries ≡ map (λ p. entry_of p.row.now) rows.now) }
-    ensures room { IfOk result (λ order. order.room ≡ room) }
-{
-    let mut order = Order::reserve(alloc, room)?;
-    for placed in rows {
-        order.extend_from_slice(&[placed.entry]);
-    }
-    Ok(order)
+    number != row.number && has_name(slots, number, row.parent, row.name)
 }

@@ -4,11 +4,13 @@ ghost use Rattle.std.specs.Prelude.{◌≡◌, ◌+◌, ◌^◌, ◌<◌, ◌≤
 ghost use Rattle.fsrm_model.specs.nodes.Fresh.{root_node};
 ghost use Rattle.fsrm_base.specs.Keyed.{has_row};
 ghost use Rattle.fsrm_model.specs.nodes.Tree.{number as key, node_of, name_of, fresh};
+ghost use Rattle.node_order.specs.Order.{has_name};
 ghost use Rattle.node_table.specs.Views.{seen};
 ghost use Rattle.volume_tree.specs.Kept.{AreHoles, AreSlots, rows_of};
 
 use crate::reads;
 use fsrm_model::{Capacity, Ledger, NoMemory, Steps};
+use name_rules::same_name;
 use node_table::{NodeTable, NodeView};
 use number_set::NumberSet;
 use std::alloc::Global;
@@ -48,6 +50,17 @@ pub fn row(slots: &NodeTable, number: u32) -> Option<NodeView<'_>>
     ensures { option_map seen result ≡ node_of (rows_of slots.now.slots) number }
 {
     slots.get(number)
+}
+
+/// Whether a number is that of a node other than the root that has a name in a folder.
+pub fn has_name(slots: &NodeTable, number: u32, folder: u32, name: &str) -> bool
+    requires { AreSlots 0 slots.now.slots }
+    ensures { result ≡ has_name (rows_of slots.now.slots) number folder name.now }
+{
+    match row(slots, number) {
+        Some(row) => number != 0 && row.parent == folder && same_name(row.name, name),
+        None => false,
+    }
 }
 
 /// The least number that no row has: that of the first empty slot, or else of the slot that is to come.

@@ -13,14 +13,10 @@ ghost use Rattle.volume_tree.specs.Looks.{passed};
 ghost use Rattle.volume_tree.specs.Volume.{IsChildAt, Shows, remove_fault, with_length, with_touch, without_node};
 
 use crate::answer::{RowsFault, TreeFault};
-use crate::children::Children;
 use crate::climb::is_at_or_below;
-use crate::entries::Order;
-use crate::entry::own_place;
-use crate::finger::Finger;
-use crate::hints::Hints;
+use crate::register::Register;
 use crate::way_up::WayUp;
-use crate::{lookup, order, reads, rows, segment, slots};
+use crate::{lookup, reads, rows, slots};
 use fsrm_model::{Capacity, Ledger, List, Names, NoMemory, NodeRow, Path, Steps, allocated};
 use node_table::{NodeTable, NodeView};
 use number_set::NumberSet;
@@ -31,7 +27,8 @@ use std::marker::Model;
 ///
 /// `steps` counts looks. A look is one node that a call reads, compares or lends. But `child_count` and `child_at` are
 /// one look each, whatever entries they compare to find where a folder's children stand; `children` counts as
-/// `child_count`, and each child that it lends as one of `child_at`.
+/// `child_count`, and each child that it lends as one of `child_at`. A node that is made or moved counts in advance the
+/// looks that put it among the children of its folder, which `arrange` does for many at once.
 ///
 /// All memory is taken by `reserve`, `from_rows` and `to_rows`.
 #[derive(Drop)]
@@ -44,10 +41,8 @@ pub struct Tree {
     pub(crate) slots: NodeTable,
     // The numbers of the slots that are empty.
     pub(crate) holes: NumberSet,
-    // The entries of all nodes but the root, by folders and in each by folded names, with room for all nodes.
-    pub(crate) order: Order,
-    // Where a name is looked for first. Nothing rests on it.
-    pub(crate) hints: Hints,
+    // Where nodes are found by their names, with room for all nodes.
+    pub(crate) register: Register,
 }
 
 impl Model for Tree {
@@ -58,7 +53,7 @@ impl Model for Tree {
 
     ghost view = { λ t. record { size = t.size; nodes = rows_of t.slots.slots } };
 
-    ghost invariant = { λ t. IsHeld t.size t.count t.used t.holes t.slots t.order };
+    ghost invariant = { λ t. IsHeld t.size t.count t.used t.holes t.slots t.register };
 }
 
 impl Tree {
@@ -71,16 +66,14 @@ impl Tree {
     {
         let slots = slots::root_alone(alloc, size)?;
         let holes = NumberSet::reserve(alloc, size.nodes)?;
-        let order = Order::reserve(alloc, size.nodes)?;
-        let hints = Hints::reserve(alloc, size.nodes)?;
+        let register = Register::reserve(alloc, size.nodes, 1)?;
         Ok(Tree {
             size,
             count: 1,
             used: 0,
             slots,
             holes,
-            order,
-            hints,
+            register,
         })
     }
 
@@ -128,15 +121,7 @@ impl Tree {
         ensures some { steps.old + 1 ≤ steps.new }
         ensures looks { steps.new ≤ steps.old + 22 }
     {
-        lookup::child(
-            &self.slots,
-            &self.order,
-            &self.hints,
-            folder,
-            name,
-            false,
-            steps,
-        )
+        lookup::child(&self.slots, &self.register, folder, name, false, steps).ok()
     }
 
     /// The node that the next names of a path lead to, so many of them, which are taken. It takes no more
@@ -160,17 +145,9 @@ impl Tree {
         for place in 0..count {
             let name = names.next()?;
             let goes_on = place + 1 < count;
-            match lookup::child(
-                &self.slots,
-                &self.order,
-                &self.hints,
-                at,
-                name,
-                goes_on,
-                steps,
-            ) {
-                Some(child) => at = child,
-                None => return None,
+            match lookup::child(&self.slots, &self.register, at, name, goes_on, steps) {
+                Ok(child) => at = child,
+                Err(_) => return None,
             }
         }
         Some(at)
@@ -218,50 +195,21 @@ impl Tree {
         is_at_or_below(&self.slots, top, node, steps)
     }
 
-    /// How many children a folder has. It is one look, whatever entries it compares.
-    pub fn child_count<L: Ledger>(&self, folder: u32, steps: &mut Steps<L>) -> u32
-        ensures value { result ≡ length (children self.now.nodes folder) }
-        ensures count { steps.new ≡ steps.old + 1 }
+    /// Puts the nodes that were made or moved lately among the children of their folders. It changes nothing that is
+    /// answered: children are asked for quicker afterwards. Each such node counted its looks when it was made or moved.
+    pub fn arrange(&mut self)
+        ensures same { self.new ≡ self.old }
+        ensures kept { IsVolume self.new.size self.new.nodes }
     {
-        steps.tick();
-        let folder = u64::from(folder);
-        let first = segment::first_from(&self.order, folder);
-        let end = segment::first_after(&self.order, folder + 1, first);
-        segment::between(&self.order, first, end) as u32
+        self.register.arrange(&self.slots);
     }
 
-    /// The number of the child that stands at a place, from 0 on, among a folder's children in the
-    /// order of their folded names. It is one look, whatever entries it compares.
-    pub fn child_at<L: Ledger>(&self, folder: u32, place: u32, steps: &mut Steps<L>) -> u32
-        requires { place < length (children self.now.nodes folder) }
-        ensures child { IsChildAt self.now.nodes folder place result }
-        ensures count { steps.new ≡ steps.old + 1 }
+    /// The same, unless these nodes are few.
+    pub fn arrange_if_many(&mut self)
+        ensures same { self.new ≡ self.old }
+        ensures kept { IsVolume self.new.size self.new.nodes }
     {
-        steps.tick();
-        let first = segment::first_from(&self.order, u64::from(folder));
-        let index = self.order.index_of(first) + place;
-        self.order.get(self.order.place_of(index))
-    }
-
-    /// The numbers of a folder's children, in the order of their folded names, to be lent a run at a time. It counts as
-    /// `child_count`: one look, whatever entries it compares. Then `Children::next` counts each child that it lends.
-    ///
-    /// They are sought first at the finger, which is left after these children, so that those of the next folder
-    /// are found at once.
-    pub fn children<L: Ledger>(
-        &self,
-        folder: u32,
-        finger: &mut Finger,
-        steps: &mut Steps<L>,
-    ) -> Children<'_>
-        ensures numbers { result ≡ map key (children_in_order self.now.nodes folder) }
-        ensures as_child_count { steps.new ≡ steps.old + 1 }
-    {
-        steps.tick();
-        let (first, end) = segment::segment(&self.order, folder, finger.place());
-        *finger = Finger::at(end);
-        let left = segment::between(&self.order, first, end);
-        Children::from(&self.order, first, left)
+        self.register.arrange_if_many(&self.slots);
     }
 
     /// Sets a file's length, in bytes, and the moment that it was modified. It takes one look.
@@ -305,16 +253,14 @@ impl Tree {
         ensures file { is_folder self.old.nodes node ≡ false → steps.new ≤ steps.old + 22 }
         ensures looks { steps.new ≤ steps.old + 44 }
     {
-        let nodes = &self.slots;
-        let row = reads::node(nodes, node, steps);
-        if order::has_child(nodes, &self.order, &row, steps) {
+        self.register.arrange_if_many(&self.slots);
+        let row = reads::node(&self.slots, node, steps);
+        if self.register.has_child(&self.slots, &row, steps) {
             return Err(TreeFault::NotEmpty);
         }
-        let place = own_place(nodes, &self.order, &row, steps);
         let bytes = row.name.len() as u32;
-        self.hints.forget(&row);
+        self.register.leave(&self.slots, &row, steps);
         self.slots.take_away(node);
-        self.order.remove(place);
         self.count -= 1;
         self.used -= bytes;
         self.holes.insert(node);
@@ -350,18 +296,13 @@ impl Tree {
             Ok(parts) => parts,
             Err(fault) => return Err(fault),
         };
-        let hints = match Hints::of(alloc, &parts.slots, size.nodes) {
-            Ok(hints) => hints,
-            Err(NoMemory) => return Err(RowsFault::NoMemory),
-        };
         Ok(Tree {
             size,
             count: parts.count,
             used: parts.used,
             slots: parts.slots,
             holes: parts.holes,
-            order: parts.order,
-            hints,
+            register: parts.register,
         })
     }
 }

@@ -19,6 +19,7 @@ use Rattle.fsrm_model.proofs.commands.EachCommand.{IsLegalReport, named}
 use Rattle.fsrm_model.proofs.commands.StepActs.{AreActs}
 use Rattle.fsrm_model.proofs.thresholds.DueLaws.{also}
 use Rattle.rescan.specs.Courses.{Scanning}
+use Rattle.volume_tree.specs.Volume.{Volume}
 use Rattle.thresholds.specs.Marked.{waiting}
 use Rattle.fsrm_engine.specs.declared.parts.Parts.{Parts}
 use Rattle.fsrm_engine.specs.Machine.{AreMarked, Machine, Takes, Does, IsIdle, IsSound, IsWhole, AreCounted, machine_of, rows_of, step_of, ended}
@@ -26,6 +27,17 @@ use Rattle.fsrm_engine.proofs.settling.MarkLaws.{idle_whole}
 use Rattle.fsrm_engine.proofs.settling.OrderedActs.{waits_as}
 use Rattle.fsrm_parts.proofs.settling.OrderlyQuotas.{quotas_orderly}
 use Rattle.fsrm_engine.proofs.steps.StepLaws.{cost_in_time}
+
+-- parts whose tree was put into its order are what they were
+pub record Arranged (p : Parts) (seen : Machine) : Type 0 where
+  pub whole : IsWhole p
+  pub view_is : machine_of p ≡ seen
+
+pub arranged : (p : Parts) (tree : Volume) (seen : Machine) → tree ≡ p.tree → IsWhole p → machine_of p ≡ seen → Arranged (record p { tree = tree }) seen
+arranged p tree seen same whole is = record {
+  whole = subst (λ (t : Volume). IsWhole (record p { tree = t })) (sym same) whole;
+  view_is = ap (λ (t : Volume). machine_of (record p { tree = t })) same ∙ is;
+}
 
 -- parts after their end are sound
 pub sound_ended : (mid new : Parts) (m : ℕ) → new ≡ ended mid m → AreCounted new → Scanning mid.tree mid.scans → IsSound new

@@ -5,7 +5,7 @@ use Rattle.std.specs.List.{AllByRecursion, list_all}
 use Rattle.std.specs.Option.{option_map_or}
 use Rattle.fsrm_model.specs.declared.command.Deed.{Deed}
 use Rattle.fsrm_model.specs.commands.Commands.{paths, has_values, more_bytes}
-use Rattle.fsrm_model.specs.commands.Entry.{number_bytes, text_bytes, path_bytes, optional, notice_bytes}
+use Rattle.fsrm_model.specs.commands.Entry.{number_bytes, choice_bytes, text_bytes, path_bytes, optional, notice_bytes}
 use Rattle.fsrm_model.specs.lines.ValueForms.{Value, path_of, number_of, text_of, notice_of}
 use Rattle.fsrm_model.specs.lines.Options.{Key, path_key, limit_key, remove_threshold_key, add_threshold_key, add_notification_key, source_template_key, exclude_key, Given, one, each_of}
 use Rattle.fsrm_model.specs.values.Patterns.{is_object_name}
@@ -97,6 +97,10 @@ needed {X} of key given deed d h = at (one of key given) h
     at None e = absurd (cc e)
     at (Some x) e = (x, refl, e)
 
+-- what is asked for is one deed
+pub deed_is : {asked d : Deed} → Some asked ≡ Some d → asked ≡ d
+deed_is h = cc h
+
 -- what is known of each command of a tool, one tuple a table
 pub record IsSoundCommand (row : List ℕ × ToolCommand) : Type 0 where
   pub sound : (L : ℕ) (given : List Given) (d : Deed) → AreSound L given → row.1.deed given ≡ Some d → IsSound L d
@@ -123,9 +127,15 @@ alone_sound name deed none valued bytes =
           subst (IsSound L) made (record { valued = both_true (list_all is_sound_path (paths deed)) (has_values deed) named valued; bytes = omega (arith, size, bytes) });
     }
 
-pub optional_fits : {X : Type 0} (n : ℕ) (o : Option X) → optional (λ x. n) o ≤ 1 + n
+optional_fits : {X : Type 0} (n : ℕ) (o : Option X) → optional (λ x. n) o ≤ 1 + n
 optional_fits n None = omega arith
 optional_fits n (Some x) = omega arith
+
+pub number_fits : (o : Option ℕ) → optional (λ n. number_bytes) o ≤ 1 + number_bytes
+number_fits o = optional_fits number_bytes o
+
+pub choice_fits : (o : Option Bool) → optional (λ b. choice_bytes) o ≤ 1 + choice_bytes
+choice_fits o = optional_fits choice_bytes o
 
 abbrev pub AreSoundCommands : List ℕ × Names ToolCommand → Type 0
 AreSoundCommands object = AllByRecursion IsSoundCommand object.1

@@ -5,14 +5,13 @@ use Rattle.std.specs.List.{AllByRecursion, list_all}
 use Rattle.std.specs.Option.{option_map_or}
 use Rattle.fsrm_model.specs.declared.command.Deed.{Deed}
 use Rattle.fsrm_model.specs.declared.command.Deed.TheVariants.{Reports}
-use Rattle.fsrm_model.specs.declared.command.ReportsDeed.TheVariants.{Generate as ReportsGenerate, Add as ReportsAdd, Delete as ReportsDelete, Run as ReportsRun, List as ReportsList}
+use Rattle.fsrm_model.specs.declared.command.ReportsDeed.TheVariants.{Delete as ReportsDelete, Run as ReportsRun, List as ReportsList}
 use Rattle.fsrm_model.specs.declared.row.Filter.{Filter}
-use Rattle.fsrm_model.specs.declared.row.ReportKind.{ReportKind}
 use Rattle.fsrm_model.specs.commands.Commands.{paths, has_values, more_bytes}
-use Rattle.fsrm_model.specs.commands.Entry.{number_bytes, text_bytes, path_bytes, optional, filter_bytes}
+use Rattle.fsrm_model.specs.commands.Entry.{text_bytes, path_bytes, optional, filter_bytes}
 use Rattle.fsrm_model.specs.lines.ValueForms.{path_of, number_of, text_of, report_of}
 use Rattle.fsrm_model.specs.lines.Options.{Key, task_key, report_key, scope_key, schedule_key, owner_key, pattern_key, min_size_key, days_key, min_use_key, max_key, Given, one}
-use Rattle.fsrm_model.specs.lines.Tools.{needs, filter_given, report_generate, job_add, of_task, report_commands, storrept}
+use Rattle.fsrm_model.specs.lines.Tools.{filter_given, report_generate, job_add, of_task, report_commands, storrept}
 use Rattle.fsrm_model.specs.objects.Jobs.{is_schedule}
 use Rattle.fsrm_model.specs.reports.Filters.{is_owner, is_length, is_filter}
 use Rattle.fsrm_model.specs.values.Limits.{longest_file, most_days, most_use, most_rows}
@@ -20,7 +19,7 @@ use Rattle.fsrm_model.specs.values.Patterns.{is_object_name, is_pattern}
 use Rattle.fsrm_base.proofs.TestLaws.{both, both_true}
 use Rattle.fsrm_model.proofs.lines.SoundValues.{Path, is_sound_path, IsSoundGiven}
 use Rattle.fsrm_model.proofs.lines.GivenOptions.{AreSound, paths_kind, numbers_kind, text_kind, one_sound, maybe_sound, shares_fit, one_fits, path_weighs, text_weighs}
-use Rattle.fsrm_model.proofs.lines.SpelledOptions.{IsSound, one_true, needed, IsSoundCommand, alone_sound, optional_fits, AreSoundCommands}
+use Rattle.fsrm_model.proofs.lines.SpelledOptions.{IsSound, needed, deed_is, IsSoundCommand, alone_sound, number_fits, AreSoundCommands}
 
 -- ---- the filter
 -- a number that may be left out
@@ -59,8 +58,7 @@ text_fits (Some text) = omega arith
 
 -- beside its pattern it has few bytes
 filter_fits : (f : Filter) → filter_bytes f ≤ option_map_or text_bytes f.pattern 0 + 50
-filter_fits f =
-    omega (arith, text_fits f.pattern, optional_fits number_bytes f.owner, optional_fits number_bytes f.min_size, optional_fits number_bytes f.days, optional_fits number_bytes f.min_use)
+filter_fits f = omega (arith, text_fits f.pattern, number_fits)
 
 -- ---- the texts and the path that are given
 record HasTexts (L : ℕ) (given : List Given) : Type 0 where
@@ -99,13 +97,11 @@ generate_sound : IsSoundCommand (codes "generate", report_generate)
 generate_sound =
     record {
       sound = λ L given d s h.
-          let make : ReportKind → Path → Deed = λ kind scope. Reports (ReportsGenerate (record { kind = kind; scope = scope; filter = filter_given given })) in
-          let kind = needed report_of report_key given (λ kind. needs path_of scope_key given (λ scope. Some (make kind scope))) d h in
-          let scope = needed path_of scope_key given (λ scope. Some (make kind.0 scope)) d kind.2 in
-          let made : make kind.0 scope.0 ≡ d = cc scope.2 in
+          let kind = needed report_of report_key given _ d h in
+          let scope = needed path_of scope_key given _ d kind.2 in
           let own : option_map_or path_bytes (one path_of scope_key given) 0 ≡ path_bytes scope.0 = ap (λ (o : Option Path). option_map_or path_bytes o 0) scope.1 in
-          subst (IsSound L) made (record {
-            valued = both_true (is_sound_path scope.0 && true) (is_filter (filter_given given)) (one_true (is_sound_path scope.0) (given_scope given scope.0 s.each scope.1)) (filter_sound given s.each);
+          subst (IsSound L) (deed_is scope.2) (record {
+            valued = rw (given_scope given scope.0 s.each scope.1) (filter_sound given s.each);
             bytes = omega (arith, own, (has_texts L given s).bytes);
           });
     }
@@ -114,29 +110,14 @@ add_sound : IsSoundCommand (codes "add", job_add)
 add_sound =
     record {
       sound = λ L given d s h.
-          let schedule = one text_of schedule_key given in
-          let asked : Filter = filter_given given in
-          let make : List ℕ → ReportKind → Path → Deed = λ name kind scope.
-          Reports (ReportsAdd (record {
-            name = name;
-            kind = kind;
-            scope = scope;
-            schedule = schedule;
-            filter = asked;
-          })) in
-          let name = needed text_of task_key given (λ name. needs report_of report_key given (λ kind. needs path_of scope_key given (λ scope. Some (make name kind scope)))) d h in
-          let kind = needed report_of report_key given (λ kind. needs path_of scope_key given (λ scope. Some (make name.0 kind scope))) d name.2 in
-          let scope = needed path_of scope_key given (λ scope. Some (make name.0 kind.0 scope)) d kind.2 in
-          let made : make name.0 kind.0 scope.0 ≡ d = cc scope.2 in
+          let name = needed text_of task_key given _ d h in
+          let kind = needed report_of report_key given _ d name.2 in
+          let scope = needed path_of scope_key given _ d kind.2 in
           let place : option_map_or path_bytes (one path_of scope_key given) 0 ≡ path_bytes scope.0 = ap (λ (o : Option Path). option_map_or path_bytes o 0) scope.1 in
           let own : option_map_or text_bytes (one text_of task_key given) 0 ≡ text_bytes name.0 = ap (λ (o : Option (List ℕ)). option_map_or text_bytes o 0) name.1 in
-          let due = option_map_or is_schedule schedule true in
-          subst (IsSound L) made (record {
-            valued =
-                both_true (is_sound_path scope.0 && true) (is_object_name name.0 && (due && is_filter asked)) (one_true (is_sound_path scope.0) (given_scope given scope.0 s.each scope.1))
-                (both_true (is_object_name name.0) (due && is_filter asked) (given_task given name.0 s.each name.1)
-                (both_true due (is_filter asked) (schedule_or given s.each) (filter_sound given s.each)));
-            bytes = omega (arith, place, own, (has_texts L given s).bytes, text_fits schedule, filter_fits asked);
+          subst (IsSound L) (deed_is scope.2) (record {
+            valued = rw (given_scope given scope.0 s.each scope.1, given_task given name.0 s.each name.1, schedule_or given s.each) (filter_sound given s.each);
+            bytes = omega (arith, place, own, (has_texts L given s).bytes, text_fits (one text_of schedule_key given), filter_fits (filter_given given));
           });
     }
 

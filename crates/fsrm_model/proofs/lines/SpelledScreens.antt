@@ -5,23 +5,22 @@ use Rattle.std.specs.List.{AllByRecursion, cons_option, list_all}
 use Rattle.std.specs.Option.{option_or, option_map_or}
 use Rattle.std.proofs.lemmas.Bool.{lt-ltb, leb-true, and_parts}
 use Rattle.std.proofs.lemmas.List.Sums.{sum_by-cons}
-use Rattle.fsrm_model.specs.declared.command.Deed.{Deed}
 use Rattle.fsrm_model.specs.declared.command.Deed.TheVariants.{Filegroup, Screen, Exception}
-use Rattle.fsrm_model.specs.declared.command.ExceptionDeed.TheVariants.{Add as ExceptionAdd, Delete as ExceptionDelete, List as ExceptionList}
-use Rattle.fsrm_model.specs.declared.command.FilegroupDeed.TheVariants.{Add as FilegroupAdd, Modify as FilegroupModify, Delete as FilegroupDelete, List as FilegroupList}
-use Rattle.fsrm_model.specs.declared.command.ScreenDeed.TheVariants.{Add as ScreenAdd, Modify as ScreenModify, Delete as ScreenDelete, List as ScreenList}
+use Rattle.fsrm_model.specs.declared.command.ExceptionDeed.TheVariants.{Delete as ExceptionDelete, List as ExceptionList}
+use Rattle.fsrm_model.specs.declared.command.FilegroupDeed.TheVariants.{List as FilegroupList}
+use Rattle.fsrm_model.specs.declared.command.ScreenDeed.TheVariants.{Delete as ScreenDelete, List as ScreenList}
 use Rattle.fsrm_model.specs.commands.Commands.{are_some_names}
-use Rattle.fsrm_model.specs.commands.Entry.{choice_bytes, text_bytes, path_bytes, optional, counted, screen_notice_bytes}
+use Rattle.fsrm_model.specs.commands.Entry.{text_bytes, path_bytes, optional, counted, screen_notice_bytes}
 use Rattle.fsrm_model.specs.values.Limits.{most_patterns}
-use Rattle.fsrm_model.specs.lines.ValueForms.{Value, path_of, choice_of, text_of, texts_of, action_of}
-use Rattle.fsrm_model.specs.lines.Options.{Key, path_key, filegroup_key, members_key, non_members_key, screen_type_key, remove_filegroup_key, add_filegroup_key, screen_notification_key, Given, its, one, each_of}
+use Rattle.fsrm_model.specs.lines.ValueForms.{Value, path_of, text_of, texts_of, action_of}
+use Rattle.fsrm_model.specs.lines.Options.{Key, path_key, filegroup_key, members_key, non_members_key, remove_filegroup_key, add_filegroup_key, screen_notification_key, Given, its, one, each_of}
 use Rattle.fsrm_model.specs.values.Patterns.{is_object_name, is_pattern, are_members, are_non_members}
-use Rattle.fsrm_model.specs.lines.Tools.{needs, group_add, group_modify, group_delete, group_commands, screen_add, screen_modify, screen_commands, except_add, except_commands, filescrn}
+use Rattle.fsrm_model.specs.lines.Tools.{group_add, group_modify, group_delete, group_commands, screen_add, screen_modify, screen_commands, except_add, except_commands, filescrn}
 use Rattle.fsrm_model.specs.objects.Thresholds.{is_new_action}
 use Rattle.fsrm_base.proofs.TestLaws.{both_true}
 use Rattle.fsrm_model.proofs.lines.SoundValues.{Path, is_sound_path, IsSoundGiven, lengths}
 use Rattle.fsrm_model.proofs.lines.GivenOptions.{AreSound, paths_kind, text_kind, texts_kind, actions_kind, one_sound, each_of_sound, maybe_sound, shares_fit, one_fits, each_fits, path_weighs, text_weighs, texts_weigh, action_weighs}
-use Rattle.fsrm_model.proofs.lines.SpelledOptions.{IsSound, one_true, needed, IsSoundCommand, path_sound_command, alone_sound, optional_fits, AreSoundCommands}
+use Rattle.fsrm_model.proofs.lines.SpelledOptions.{IsSound, needed, deed_is, IsSoundCommand, path_sound_command, alone_sound, number_fits, choice_fits, AreSoundCommands}
 
 -- a group's name, and the bytes that are left for its patterns
 record HasGroup (L : ℕ) (given : List Given) (name : List ℕ) : Type 0 where
@@ -154,16 +153,14 @@ group_add_sound =
     record {
       sound = λ L given d s h.
           let others = unwrap_or (one texts_of non_members_key given) [] in
-          let make : List ℕ → List (List ℕ) → Deed = λ name members. Filegroup (FilegroupAdd (record { name = name; members = members; non_members = others })) in
-          let name = needed text_of filegroup_key given (λ name. needs texts_of members_key given (λ members. Some (make name members))) d h in
-          let members = needed texts_of members_key given (λ members. Some (make name.0 members)) d name.2 in
-          let made : make name.0 members.0 ≡ d = cc members.2 in
+          let name = needed text_of filegroup_key given _ d h in
+          let members = needed texts_of members_key given _ d name.2 in
           let g = has_group L given name.0 s name.1 in
           let some = given_members given members.0 s.each members.1 in
           let more = unwrapped_others (one texts_of non_members_key given) (non_members_or given s.each) in
           let own : option_map_or lengths (one texts_of members_key given) 0 ≡ lengths members.0 = ap (λ (o : Option (List (List ℕ))). option_map_or lengths o 0) members.1 in
-          subst (IsSound L) made (record {
-            valued = both_true (is_object_name name.0) (are_members members.0 && are_non_members others) g.named (both_true (are_members members.0) (are_non_members others) some more.0);
+          subst (IsSound L) (deed_is members.2) (record {
+            valued = rw (g.named, some, more.0) refl;
             bytes = omega (arith, g.bytes, own, more.1, members_fit members.0 some, others_fit others more.0);
           });
     }
@@ -172,19 +169,13 @@ group_modify_sound : IsSoundCommand (codes "modify", group_modify)
 group_modify_sound =
     record {
       sound = λ L given d s h.
-          let members = one texts_of members_key given in
-          let others = one texts_of non_members_key given in
-          let make : List ℕ → Deed = λ name. Filegroup (FilegroupModify (record { name = name; members = members; non_members = others })) in
-          let name = needed text_of filegroup_key given (λ name. Some (make name)) d h in
-          let made : make name.0 ≡ d = cc name.2 in
+          let name = needed text_of filegroup_key given _ d h in
           let g = has_group L given name.0 s name.1 in
           let some = members_or given s.each in
           let more = non_members_or given s.each in
-          subst (IsSound L) made (record {
-            valued =
-                both_true (is_object_name name.0) (option_map_or are_members members true && option_map_or are_non_members others true) g.named
-                (both_true (option_map_or are_members members true) (option_map_or are_non_members others true) some more);
-            bytes = omega (arith, g.bytes, maybe_members_fit members some, maybe_others_fit others more);
+          subst (IsSound L) (deed_is name.2) (record {
+            valued = rw (g.named, some, more) refl;
+            bytes = omega (arith, g.bytes, maybe_members_fit (one texts_of members_key given) some, maybe_others_fit (one texts_of non_members_key given) more);
           });
     }
 
@@ -192,10 +183,9 @@ group_delete_sound : IsSoundCommand (codes "delete", group_delete)
 group_delete_sound =
     record {
       sound = λ L given d s h.
-          let name = needed text_of filegroup_key given (λ name. Some (Filegroup (FilegroupDelete name))) d h in
-          let made : Filegroup (FilegroupDelete name.0) ≡ d = cc name.2 in
+          let name = needed text_of filegroup_key given _ d h in
           let g = has_group L given name.0 s name.1 in
-          subst (IsSound L) made (record { valued = g.named; bytes = omega (arith, g.bytes) });
+          subst (IsSound L) (deed_is name.2) (record { valued = g.named; bytes = omega (arith, g.bytes) });
     }
 
 group_commands_sound : AllByRecursion IsSoundCommand group_commands
@@ -207,24 +197,12 @@ screen_add_sound : IsSoundCommand (codes "add", screen_add)
 screen_add_sound =
     record {
       sound = λ L given d s h.
-          let groups = each_of text_of add_filegroup_key given in
-          let actions = each_of action_of screen_notification_key given in
-          let make : Path → Deed = λ path.
-          Screen (ScreenAdd (record {
-            path = path;
-            active = unwrap_or (one choice_of screen_type_key given) true;
-            groups = groups;
-            actions = actions;
-          })) in
-          let path = needed path_of path_key given (λ path. needs text_of add_filegroup_key given (λ first. Some (make path))) d h in
-          let first = needed text_of add_filegroup_key given (λ first. Some (make path.0)) d path.2 in
-          let made : make path.0 ≡ d = cc first.2 in
+          let path = needed path_of path_key given _ d h in
+          let first = needed text_of add_filegroup_key given _ d path.2 in
           let p = has_screen L given path.0 s path.1 in
-          subst (IsSound L) made (record {
-            valued =
-                both_true (is_sound_path path.0 && true) (are_some_names groups && list_all is_new_action actions) (one_true (is_sound_path path.0) p.named)
-                (both_true (are_some_names groups) (list_all is_new_action actions) (some_groups given first.0 s.each first.1) (given_actions given s.each));
-            bytes = omega (arith, p.bytes);
+          subst (IsSound L) (deed_is first.2) (record {
+            valued = rw (p.named, some_groups given first.0 s.each first.1, given_actions given s.each) refl;
+            bytes = omega (arith, p.bytes, number_fits, choice_fits);
           });
     }
 
@@ -232,23 +210,11 @@ screen_modify_sound : IsSoundCommand (codes "modify", screen_modify)
 screen_modify_sound =
     record {
       sound = λ L given d s h.
-          let removed = each_of text_of remove_filegroup_key given in
-          let groups = each_of text_of add_filegroup_key given in
-          let make : Path → Deed = λ path.
-          Screen (ScreenModify (record {
-            path = path;
-            active = one choice_of screen_type_key given;
-            removed = removed;
-            groups = groups;
-          })) in
-          let path = needed path_of path_key given (λ path. Some (make path)) d h in
-          let made : make path.0 ≡ d = cc path.2 in
+          let path = needed path_of path_key given _ d h in
           let p = has_screen L given path.0 s path.1 in
-          subst (IsSound L) made (record {
-            valued =
-                both_true (is_sound_path path.0 && true) (list_all is_object_name removed && list_all is_object_name groups) (one_true (is_sound_path path.0) p.named)
-                (both_true (list_all is_object_name removed) (list_all is_object_name groups) (given_removed_groups given s.each) (given_groups given s.each));
-            bytes = omega (arith, p.bytes, optional_fits choice_bytes (one choice_of screen_type_key given));
+          subst (IsSound L) (deed_is path.2) (record {
+            valued = rw (p.named, given_removed_groups given s.each, given_groups given s.each) refl;
+            bytes = omega (arith, p.bytes, number_fits, choice_fits);
           });
     }
 
@@ -266,15 +232,12 @@ except_add_sound : IsSoundCommand (codes "add", except_add)
 except_add_sound =
     record {
       sound = λ L given d s h.
-          let groups = each_of text_of add_filegroup_key given in
-          let make : Path → Deed = λ path. Exception (ExceptionAdd (record { path = path; groups = groups })) in
-          let path = needed path_of path_key given (λ path. needs text_of add_filegroup_key given (λ first. Some (make path))) d h in
-          let first = needed text_of add_filegroup_key given (λ first. Some (make path.0)) d path.2 in
-          let made : make path.0 ≡ d = cc first.2 in
+          let path = needed path_of path_key given _ d h in
+          let first = needed text_of add_filegroup_key given _ d path.2 in
           let p = has_screen L given path.0 s path.1 in
-          subst (IsSound L) made (record {
-            valued = both_true (is_sound_path path.0 && true) (are_some_names groups) (one_true (is_sound_path path.0) p.named) (some_groups given first.0 s.each first.1);
-            bytes = omega (arith, p.bytes);
+          subst (IsSound L) (deed_is first.2) (record {
+            valued = rw (p.named, some_groups given first.0 s.each first.1) refl;
+            bytes = omega (arith, p.bytes, number_fits, choice_fits);
           });
     }
 

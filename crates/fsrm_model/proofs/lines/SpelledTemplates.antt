@@ -1,28 +1,23 @@
 -- A line that spells a command of templates or of auto-apply quotas spells a valid one.
 use Rattle.std.proofs.Common.{◌≡◌, ℕ, ◌+◌, ◌≤◌, List, [], ◌∷◌, Bool, true, false, length, refl, ap, subst, arith}
-use Rattle.std.specs.Prelude.{◌&&◌, cond, if◌then◌else◌, codes, sum_by, nat_le, unwrap_or, Option, Some, None}
+use Rattle.std.specs.Prelude.{cond, if◌then◌else◌, codes, sum_by, nat_le, Option, Some, None}
 use Rattle.std.specs.List.{AllByRecursion, cons_option, list_all}
 use Rattle.std.specs.Option.{option_map_or}
 use Rattle.std.proofs.lemmas.Bool.{le-leb}
 use Rattle.std.proofs.lemmas.List.Sums.{sum_by-cons}
-use Rattle.fsrm_model.specs.declared.command.AutoquotaDeed.TheVariants.{Add as AutoquotaAdd, Delete as AutoquotaDelete, List as AutoquotaList}
-use Rattle.fsrm_model.specs.declared.command.Deed.{Deed}
+use Rattle.fsrm_model.specs.declared.command.AutoquotaDeed.TheVariants.{Delete as AutoquotaDelete, List as AutoquotaList}
 use Rattle.fsrm_model.specs.declared.command.Deed.TheVariants.{Template, Autoquota}
-use Rattle.fsrm_model.specs.declared.command.TemplateDeed.TheVariants.{Add as TemplateAdd, Modify as TemplateModify, Delete as TemplateDelete, List as TemplateList}
-use Rattle.fsrm_model.specs.declared.command.Update.TheVariants.{Keep}
-use Rattle.fsrm_model.specs.commands.Entry.{number_bytes, text_bytes, notice_bytes, choice_bytes}
+use Rattle.fsrm_model.specs.declared.command.TemplateDeed.TheVariants.{List as TemplateList}
+use Rattle.fsrm_model.specs.commands.Entry.{number_bytes, text_bytes, notice_bytes}
 use Rattle.fsrm_model.specs.values.Limits.{most_excluded}
 use Rattle.fsrm_model.specs.values.Name.{is_name}
-use Rattle.fsrm_model.specs.lines.ValueForms.{Value, path_of, number_of, choice_of, update_of, text_of, notice_of}
-use Rattle.fsrm_model.specs.lines.Options.{Key, path_key, limit_key, quota_type_key, remove_threshold_key, add_threshold_key, add_notification_key, template_key, source_template_key, update_derived_key, exclude_key, Given, is_of, one, each_of, times_in}
+use Rattle.fsrm_model.specs.lines.ValueForms.{Value, path_of, number_of, text_of, notice_of}
+use Rattle.fsrm_model.specs.lines.Options.{Key, path_key, limit_key, remove_threshold_key, add_threshold_key, add_notification_key, template_key, source_template_key, exclude_key, Given, is_of, one, each_of, times_in}
 use Rattle.fsrm_model.specs.values.Patterns.{is_object_name}
-use Rattle.fsrm_model.specs.objects.Quota.{is_limit}
-use Rattle.fsrm_model.specs.lines.Tools.{needs, new_thresholds, template_add, template_modify, template_delete, template_commands, auto_add, auto_commands}
-use Rattle.fsrm_model.specs.objects.Thresholds.{is_percent, is_notice}
-use Rattle.fsrm_base.proofs.TestLaws.{both_true}
-use Rattle.fsrm_model.proofs.lines.SoundValues.{Path, is_sound_path, IsSoundGiven}
+use Rattle.fsrm_model.specs.lines.Tools.{template_add, template_modify, template_delete, template_commands, auto_add, auto_commands}
+use Rattle.fsrm_model.proofs.lines.SoundValues.{IsSoundGiven}
 use Rattle.fsrm_model.proofs.lines.GivenOptions.{AreSound, text_kind, one_sound, each_of_sound, shares_fit, one_fits, each_fits, text_weighs, number_weighs, notice_weighs}
-use Rattle.fsrm_model.proofs.lines.SpelledOptions.{IsSound, one_true, has_path, given_limit, given_removals, given_percents, given_notices, limit_or, given_source, needed, IsSoundCommand, path_sound_command, alone_sound, optional_fits}
+use Rattle.fsrm_model.proofs.lines.SpelledOptions.{IsSound, has_path, given_limit, given_removals, given_percents, given_notices, limit_or, given_source, needed, deed_is, IsSoundCommand, path_sound_command, alone_sound, number_fits, choice_fits}
 
 -- a template's name, and the bytes that are left for its thresholds
 record HasTemplate (L : ℕ) (given : List Given) (name : List ℕ) : Type 0 where
@@ -76,25 +71,12 @@ template_add_sound : IsSoundCommand (codes "add", template_add)
 template_add_sound =
     record {
       sound = λ L given d s h.
-          let percents = each_of number_of add_threshold_key given in
-          let notices = each_of notice_of add_notification_key given in
-          let make : List ℕ → ℕ → Deed = λ name limit.
-          Template (TemplateAdd (record {
-            name = name;
-            limit = limit;
-            enforce = unwrap_or (one choice_of quota_type_key given) true;
-            thresholds = new_thresholds given;
-          })) in
-          let name = needed text_of template_key given (λ name. needs number_of limit_key given (λ limit. Some (make name limit))) d h in
-          let limit = needed number_of limit_key given (λ limit. Some (make name.0 limit)) d name.2 in
-          let made : make name.0 limit.0 ≡ d = cc limit.2 in
+          let name = needed text_of template_key given _ d h in
+          let limit = needed number_of limit_key given _ d name.2 in
           let t = has_template L given name.0 s name.1 in
-          let marks = list_all is_percent percents && list_all is_notice notices in
-          subst (IsSound L) made (record {
-            valued = both_true (is_object_name name.0) (is_limit limit.0 && marks) t.named
-                (both_true (is_limit limit.0) marks (given_limit given limit.0 s.each limit.1)
-                (both_true (list_all is_percent percents) (list_all is_notice notices) (given_percents given s.each) (given_notices given s.each)));
-            bytes = omega (arith, t.bytes);
+          subst (IsSound L) (deed_is limit.2) (record {
+            valued = rw (t.named, given_limit given limit.0 s.each limit.1, given_percents given s.each, given_notices given s.each) refl;
+            bytes = omega (arith, t.bytes, number_fits, choice_fits);
           });
     }
 
@@ -102,29 +84,11 @@ template_modify_sound : IsSoundCommand (codes "modify", template_modify)
 template_modify_sound =
     record {
       sound = λ L given d s h.
-          let removed = each_of number_of remove_threshold_key given in
-          let percents = each_of number_of add_threshold_key given in
-          let notices = each_of notice_of add_notification_key given in
-          let make : List ℕ → Deed = λ name.
-          Template (TemplateModify (record {
-            name = name;
-            limit = one number_of limit_key given;
-            enforce = one choice_of quota_type_key given;
-            removed = removed;
-            thresholds = new_thresholds given;
-            update = unwrap_or (one update_of update_derived_key given) Keep;
-          })) in
-          let name = needed text_of template_key given (λ name. Some (make name)) d h in
-          let made : make name.0 ≡ d = cc name.2 in
+          let name = needed text_of template_key given _ d h in
           let t = has_template L given name.0 s name.1 in
-          let size = option_map_or is_limit (one number_of limit_key given) true in
-          let marks = list_all is_percent percents && list_all is_notice notices in
-          subst (IsSound L) made (record {
-            valued = both_true (is_object_name name.0) (size && (list_all is_percent removed && marks)) t.named
-                (both_true size (list_all is_percent removed && marks) (limit_or given s.each)
-                (both_true (list_all is_percent removed) marks (given_removals given s.each)
-                (both_true (list_all is_percent percents) (list_all is_notice notices) (given_percents given s.each) (given_notices given s.each))));
-            bytes = omega (arith, t.bytes, optional_fits number_bytes (one number_of limit_key given), optional_fits choice_bytes (one choice_of quota_type_key given));
+          subst (IsSound L) (deed_is name.2) (record {
+            valued = rw (t.named, limit_or given s.each, given_removals given s.each, given_percents given s.each, given_notices given s.each) refl;
+            bytes = omega (arith, t.bytes, number_fits, choice_fits);
           });
     }
 
@@ -132,10 +96,9 @@ template_delete_sound : IsSoundCommand (codes "delete", template_delete)
 template_delete_sound =
     record {
       sound = λ L given d s h.
-          let name = needed text_of template_key given (λ name. Some (Template (TemplateDelete name))) d h in
-          let made : Template (TemplateDelete name.0) ≡ d = cc name.2 in
+          let name = needed text_of template_key given _ d h in
           let t = has_template L given name.0 s name.1 in
-          subst (IsSound L) made (record { valued = t.named; bytes = omega (arith, t.bytes) });
+          subst (IsSound L) (deed_is name.2) (record { valued = t.named; bytes = omega (arith, t.bytes) });
     }
 
 pub template_commands_sound : AllByRecursion IsSoundCommand template_commands
@@ -147,20 +110,13 @@ auto_add_sound : IsSoundCommand (codes "add", auto_add)
 auto_add_sound =
     record {
       sound = λ L given d s h.
-          let excluded = each_of text_of exclude_key given in
-          let make : Path → List ℕ → Deed = λ path name. Autoquota (AutoquotaAdd (record { path = path; template = name; excluded = excluded })) in
-          let path = needed path_of path_key given (λ path. needs text_of source_template_key given (λ name. Some (make path name))) d h in
-          let name = needed text_of source_template_key given (λ name. Some (make path.0 name)) d path.2 in
-          let made : make path.0 name.0 ≡ d = cc name.2 in
+          let path = needed path_of path_key given _ d h in
+          let name = needed text_of source_template_key given _ d path.2 in
           let p = has_path L given path.0 s path.1 in
           let own : option_map_or text_bytes (one text_of source_template_key given) 0 ≡ text_bytes name.0 = ap (λ (o : Option (List ℕ)). option_map_or text_bytes o 0) name.1 in
-          let few = nat_le (length excluded) most_excluded in
-          subst (IsSound L) made (record {
-            valued =
-                both_true (is_sound_path path.0 && true) (is_object_name name.0 && (few && list_all is_name excluded)) (one_true (is_sound_path path.0) p.named)
-                (both_true (is_object_name name.0) (few && list_all is_name excluded) (given_source given name.0 s.each name.1)
-                (both_true few (list_all is_name excluded) (excluded_few L given s) (given_excluded given s.each)));
-            bytes = omega (arith, p.bytes, own);
+          subst (IsSound L) (deed_is name.2) (record {
+            valued = rw (p.named, given_source given name.0 s.each name.1, excluded_few L given s, given_excluded given s.each) refl;
+            bytes = omega (arith, p.bytes, own, number_fits, choice_fits);
           });
     }
 

@@ -1,36 +1,35 @@
 -- A line spells only valid commands: their values have their forms and ranges, and an entry has few more bytes than
 -- the line.
 use Rattle.std.proofs.Common.{◌≡◌, ℕ, ◌+◌, ◌≤◌, ◌<◌, List, [], ◌∷◌, ◌++◌, Bool, true, false, length, refl, sym, ap, subst, inl, inr, arith}
-use Rattle.std.specs.Prelude.{◌&&◌, ◌||◌, is_some, if◌then◌else◌, codes, sum_by, nat_lt, nat_le, unwrap_or, Option, Some, None, option_map}
+use Rattle.std.specs.Prelude.{◌&&◌, ◌||◌, is_some, if◌then◌else◌, codes, sum_by, nat_lt, nat_le, Option, Some, None, option_map}
 use Rattle.std.specs.Char.{is_ascii_digit}
 use Rattle.std.specs.List.{AllByRecursion, list_all}
 use Rattle.std.specs.Option.{option_map_or}
 use Rattle.std.proofs.lemmas.Bool.{le-leb}
 use Rattle.std.proofs.lemmas.List.{length-append}
 use Rattle.std.proofs.lemmas.List.Sums.{sum_by-cons}
-use Rattle.fsrm_model.specs.declared.command.AdminDeed.TheVariants.{Options as AdminOptions, List as AdminList, Log as AdminLog}
+use Rattle.fsrm_model.specs.declared.command.AdminDeed.TheVariants.{List as AdminList, Log as AdminLog}
 use Rattle.fsrm_model.specs.declared.command.Command.{Command}
 use Rattle.fsrm_model.specs.declared.command.Deed.{Deed}
 use Rattle.fsrm_model.specs.declared.command.Deed.TheVariants.{File, Usage, Step, Quota, Admin}
 use Rattle.fsrm_model.specs.declared.command.FileOp.TheVariants.{Mkdir, Create, Resize, Touch, Move, Remove}
-use Rattle.fsrm_model.specs.declared.command.QuotaDeed.TheVariants.{Add as QuotaAdd, Modify as QuotaModify, Delete as QuotaDelete, Scan as QuotaScan, Resetpeak as QuotaResetpeak, List as QuotaList}
+use Rattle.fsrm_model.specs.declared.command.QuotaDeed.TheVariants.{Delete as QuotaDelete, Scan as QuotaScan, Resetpeak as QuotaResetpeak, List as QuotaList}
 use Rattle.fsrm_model.specs.commands.Commands.{paths, has_values, is_owner, is_length, kind, more_bytes}
 use Rattle.fsrm_model.specs.commands.Entry.{number_bytes, choice_bytes, text_bytes, path_bytes, optional}
 use Rattle.fsrm_model.specs.values.Limits.{latest_moment, longest_file, longest_path, longest_entry, last_owner, most_visits, most_minutes}
-use Rattle.fsrm_model.specs.lines.ValueForms.{path_of, number_of, choice_of, text_of, notice_of}
-use Rattle.fsrm_model.specs.lines.Options.{path_key, limit_key, quota_type_key, status_key, remove_threshold_key, add_threshold_key, add_notification_key, source_template_key, run_limit_key, Given, one, each_of}
+use Rattle.fsrm_model.specs.lines.ValueForms.{path_of, number_of, text_of}
+use Rattle.fsrm_model.specs.lines.Options.{path_key, limit_key, source_template_key, run_limit_key, Given, one}
 use Rattle.fsrm_model.specs.values.Patterns.{is_object_name}
 use Rattle.fsrm_model.specs.objects.Quota.{is_limit}
 use Rattle.fsrm_model.specs.meaning.Spelling.{Piece, Plain, Quoted, spelled_pieces, text_of_pieces, Writes, SpellsWords, SpellsTool, SpellsPlaced, SpellsDeed, Spells}
-use Rattle.fsrm_model.specs.lines.Tools.{Names, ToolCommand, quota_add, quota_modify, quota_list, quota_commands, has_limit, new_thresholds, admin_options, admin_commands, dirquota, tools}
-use Rattle.fsrm_model.specs.objects.Thresholds.{is_percent, is_notice}
+use Rattle.fsrm_model.specs.lines.Tools.{Names, ToolCommand, quota_add, quota_modify, quota_list, quota_commands, has_limit, admin_options, admin_commands, dirquota, tools}
 use Rattle.fsrm_model.specs.store.Valued.{is_path, is_deed, is_short_path, is_short, is_command}
 use Rattle.fsrm_model.specs.store.Valid.{is_moment}
 use Rattle.fsrm_model.proofs.lines.CommandLaws.{named_each}
 use Rattle.fsrm_base.proofs.TestLaws.{both, both_true, lt_is}
 use Rattle.fsrm_model.proofs.lines.SoundValues.{Path, is_sound_path, path_sound, within, IsSoundGiven}
 use Rattle.fsrm_model.proofs.lines.GivenOptions.{AreSound, each_sound, numbers_kind, one_sound, maybe_sound}
-use Rattle.fsrm_model.proofs.lines.SpelledOptions.{IsSound, one_true, alone, has_path, given_path, given_limit, given_removals, given_percents, given_notices, limit_or, given_source, needed, IsSoundCommand, path_sound_command, alone_sound, optional_fits, AreSoundCommands}
+use Rattle.fsrm_model.proofs.lines.SpelledOptions.{IsSound, one_true, alone, has_path, given_path, given_limit, given_removals, given_percents, given_notices, limit_or, given_source, needed, deed_is, IsSoundCommand, path_sound_command, alone_sound, number_fits, choice_fits, AreSoundCommands}
 use Rattle.fsrm_model.proofs.lines.SpelledReports.{storrept_sound}
 use Rattle.fsrm_model.proofs.lines.SpelledScreens.{filescrn_sound}
 use Rattle.fsrm_model.proofs.lines.SpelledTemplates.{template_commands_sound, auto_commands_sound}
@@ -111,31 +110,13 @@ add_sound : IsSoundCommand (codes "add", quota_add)
 add_sound =
     record {
       sound = λ L given d s h.
-          let limit = one number_of limit_key given in
-          let source = one text_of source_template_key given in
-          let percents = each_of number_of add_threshold_key given in
-          let notices = each_of notice_of add_notification_key given in
-          let make : Path → Deed = λ path.
-          Quota (QuotaAdd (record {
-            path = path;
-            limit = limit;
-            enforce = one choice_of quota_type_key given;
-            enabled = unwrap_or (one choice_of status_key given) true;
-            template = source;
-            thresholds = new_thresholds given;
-          })) in
-          let path = needed path_of path_key given (λ path. if has_limit given then Some (make path) else None) d h in
-          let picked = chosen (has_limit given) (Some (make path.0)) d path.2 in
-          let made : make path.0 ≡ d = cc picked.1 in
+          let path = needed path_of path_key given _ d h in
+          let picked = chosen (has_limit given) _ d path.2 in
           let p = has_path L given path.0 s path.1 in
-          let size = option_map_or is_limit limit (is_some source) in
-          let named = option_map_or is_object_name source true in
-          let marks = list_all is_percent percents && list_all is_notice notices in
-          subst (IsSound L) made (record {
-            valued = both_true (is_sound_path path.0 && true) ((size && named) && marks) (one_true (is_sound_path path.0) p.named)
-                (both_true (size && named) marks (both_true size named (limit_or_source given limit source s.each refl picked.0) (source_or given s.each))
-                (both_true (list_all is_percent percents) (list_all is_notice notices) (given_percents given s.each) (given_notices given s.each)));
-            bytes = omega (arith, p.bytes, optional_fits number_bytes limit, optional_fits choice_bytes (one choice_of quota_type_key given), source_fits source);
+          let limit = limit_or_source given (one number_of limit_key given) (one text_of source_template_key given) s.each refl picked.0 in
+          subst (IsSound L) (deed_is picked.1) (record {
+            valued = rw (p.named, limit, source_or given s.each, given_percents given s.each, given_notices given s.each) refl;
+            bytes = omega (arith, p.bytes, number_fits, choice_fits, source_fits);
           });
     }
 
@@ -143,29 +124,11 @@ modify_sound : IsSoundCommand (codes "modify", quota_modify)
 modify_sound =
     record {
       sound = λ L given d s h.
-          let removed = each_of number_of remove_threshold_key given in
-          let percents = each_of number_of add_threshold_key given in
-          let notices = each_of notice_of add_notification_key given in
-          let make : Path → Deed = λ path.
-          Quota (QuotaModify (record {
-            path = path;
-            limit = one number_of limit_key given;
-            enforce = one choice_of quota_type_key given;
-            enabled = one choice_of status_key given;
-            removed = removed;
-            thresholds = new_thresholds given;
-          })) in
-          let path = needed path_of path_key given (λ path. Some (make path)) d h in
-          let made : make path.0 ≡ d = cc path.2 in
+          let path = needed path_of path_key given _ d h in
           let p = has_path L given path.0 s path.1 in
-          let size = option_map_or is_limit (one number_of limit_key given) true in
-          subst (IsSound L) made (record {
-            valued =
-                both_true (is_sound_path path.0 && true) (size && (list_all is_percent removed && (list_all is_percent percents && list_all is_notice notices))) (one_true (is_sound_path path.0) p.named)
-                (both_true size (list_all is_percent removed && (list_all is_percent percents && list_all is_notice notices)) (limit_or given s.each)
-                (both_true (list_all is_percent removed) (list_all is_percent percents && list_all is_notice notices) (given_removals given s.each)
-                (both_true (list_all is_percent percents) (list_all is_notice notices) (given_percents given s.each) (given_notices given s.each))));
-            bytes = omega (arith, p.bytes, optional_fits number_bytes (one number_of limit_key given), optional_fits choice_bytes (one choice_of quota_type_key given), optional_fits choice_bytes (one choice_of status_key given));
+          subst (IsSound L) (deed_is path.2) (record {
+            valued = rw (p.named, limit_or given s.each, given_removals given s.each, given_percents given s.each, given_notices given s.each) refl;
+            bytes = omega (arith, p.bytes, number_fits, choice_fits);
           });
     }
 
@@ -173,9 +136,8 @@ options_sound : IsSoundCommand (codes "options", admin_options)
 options_sound =
     record {
       sound = λ L given d s h.
-          let minutes = needed number_of run_limit_key given (λ minutes. Some (Admin (AdminOptions minutes))) d h in
-          let made : Admin (AdminOptions minutes.0) ≡ d = cc minutes.2 in
-          subst (IsSound L) made (record { valued = given_run_limit given minutes.0 s.each minutes.1; bytes = omega arith });
+          let minutes = needed number_of run_limit_key given _ d h in
+          subst (IsSound L) (deed_is minutes.2) (record { valued = given_run_limit given minutes.0 s.each minutes.1; bytes = omega arith });
     }
 
 list_sound : IsSoundCommand (codes "list", quota_list)

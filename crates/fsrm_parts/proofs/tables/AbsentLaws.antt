@@ -1,5 +1,5 @@
 -- Taking away what isn't there changes nothing.
-use Rattle.std.proofs.Common.{◌≡◌, ℕ, ◌-◌, ◌==◌, true, false, List, Option, Some, None, refl, ap, sym, ◌∙◌}
+use Rattle.std.proofs.Common.{◌≡◌, ℕ, ◌==◌, true, false, List, Option, Some, None, refl, ap, sym, ◌∙◌}
 use Rattle.std.specs.Borrow.{Bor}
 use Rattle.std.specs.Prelude.{is_some}
 use Rattle.std.specs.Option.{option_copied}
@@ -16,7 +16,6 @@ use Rattle.quota_usage.specs.declared.change.Counter.{Counter}
 use Rattle.quota_usage.specs.Counters.{counted, used_in, without_counter}
 
 -- counters and quotas that are there, and that aren't
-
 counter_test : (counters : List Counter) (n : ℕ) (o : Option ℕ) → o ≡ used_in counters n → has_row counted n counters ≡ is_some o
 counter_test counters n o e = sym (ap is_some e ∙ (is_some-mapped (λ (c : Counter). c.bytes) (row_of counted n counters) ∙ is_some-find (λ c. counted c == n) counters))
 

@@ -8,7 +8,6 @@ use Rattle.fsrm_model.specs.nodes.FileOps.{target_folder}
 use Rattle.fsrm_model.specs.nodes.Leads.{is_root, leads_to_folder}
 use Rattle.fsrm_model.specs.nodes.Tree.{folder_part, last_name, resolve}
 use Rattle.volume_tree.specs.declared.answer.TreeFault.{TreeFault}
-use Rattle.volume_tree.specs.declared.answer.TreeFault.TheVariants as fault
 use Rattle.volume_tree.specs.Volume.{Volume, new_fault}
 use Rattle.fsrm_parts.specs.Faults.{new_refusal, refusal_of}
 use Rattle.fsrm_parts.specs.Places.{IsPlace, IsRefusedPlace}

@@ -19,8 +19,8 @@ use Rattle.fsrm_model.proofs.nodes.Keeps.{folder_found, found_folder, is_child_t
 use Rattle.fsrm_base.proofs.Look.{found_key}
 use Rattle.node_table.specs.declared.view.NodeView.{NodeView}
 use Rattle.volume_tree.specs.Volume.{IsChildAt, Shows}
-use Rattle.volume_tree.proofs.ordering.Children.{children_many}
-use Rattle.volume_tree.proofs.ordering.Items.{in_order_moves}
+use Rattle.node_order.proofs.Children.{children_many}
+use Rattle.node_order.proofs.Items.{in_order_moves}
 use Rattle.number_set.specs.Numbers.{Numbers}
 use Rattle.rescan.specs.Visits.{folders_in}
 use Rattle.fsrm_model.proofs.nodes.Numbered.{has_row-filter}

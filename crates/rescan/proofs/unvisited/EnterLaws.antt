@@ -16,8 +16,8 @@ use Rattle.fsrm_model.specs.nodes.Tree.{number, node_of, is_folder, is_child, ch
 use Rattle.fsrm_model.proofs.nodes.Keeps.{found_folder}
 use Rattle.node_table.specs.declared.view.NodeView.{NodeView}
 use Rattle.volume_tree.specs.Volume.{Shows}
-use Rattle.volume_tree.proofs.ordering.Entries.{rows_found}
-use Rattle.volume_tree.proofs.ordering.Items.{in_order_moves}
+use Rattle.node_order.proofs.ListLaws.{rows_found}
+use Rattle.node_order.proofs.Items.{in_order_moves}
 use Rattle.number_set.specs.Numbers.{Numbers}
 use Rattle.rescan.specs.Visits.{folders_in, folders_among, space_of}
 use Rattle.rescan.proofs.unvisited.ChildLaws.{before, sum-children, filter_least}

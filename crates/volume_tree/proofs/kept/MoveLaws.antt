@@ -1,7 +1,10 @@
 -- What a move that a tree has nothing against says.
-use Rattle.std.proofs.Common.{◌≡◌, ℕ, ◌+◌, ◌≤◌, ◌==◌, Bool, true, false, length, List, refl, None}
-use Rattle.std.specs.Prelude.{[], ◌∷◌}
+use Rattle.std.proofs.Common.{◌≡◌, ℕ, ◌+◌, ◌≤◌, ◌==◌, Bool, true, false, length, List, refl, sym, ◌∙◌, ap, None, Some, Option, Ok, Err, Result}
+use Rattle.std.specs.Prelude.{[], ◌∷◌, IfOk, OnErr}
+use Rattle.std.specs.Result.{result_ok}
+use Rattle.block_list.specs.declared.place.Place.{Place}
 use Rattle.fsrm_base.specs.Causes.{◌when◌, first}
+use Rattle.fsrm_model.specs.declared.row.NodeRow.{NodeRow}
 use Rattle.fsrm_model.specs.nodes.FileOps.{placed}
 use Rattle.fsrm_base.specs.Keyed.{has_row, with_change}
 use Rattle.fsrm_model.specs.values.Name.{is_name}
@@ -39,3 +42,8 @@ pub volume_moved : (v : Volume) (x d : ℕ) (name : List ℕ) → IsVolume v.siz
 volume_moved v x d name volume has inner folder named h =
     let may = may_move v x d name h in
     volume_placed v.size v.nodes x d name volume has inner folder named may.apart may.alone may.room
+
+-- nobody but the node itself has the name, if what was found is no other one
+pub found_alone : (nodes : List NodeRow) (x d : ℕ) (name : List ℕ) (found : Result ℕ Place) (number : Option ℕ) → IfOk found (λ n. child_number nodes d name ≡ Some n) → OnErr found (child_number nodes d name ≡ None) → number ≡ result_ok found → is_other number x ≡ false → is_other (child_number nodes d name) x ≡ false
+found_alone nodes x d name (Ok n) number ok err is apart = ap (λ o. is_other o x) (ok ∙ sym is) ∙ apart
+found_alone nodes x d name (Err place) number ok err is apart = ap (λ o. is_other o x) (err ∙ sym is) ∙ apart

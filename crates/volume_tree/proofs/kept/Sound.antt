@@ -1,11 +1,8 @@
 -- Rows that pass each part of the reading are the nodes of a volume, and those that fail one are not.
-use Rattle.std.proofs.Common.{◌≡◌, ℕ, suc, ◌≤◌, ◌==◌, ◌||◌, ◌&&◌, Bool, true, false, cond, not, inl, inr, List, [], ◌∷◌, get_or, refl, sym, ◌∙◌, ap, arith, nat_le, nat_lt, Some}
-use Rattle.std.proofs.lemmas.Bool.{cases_order}
-use Rattle.std.proofs.lemmas.List.{get_or_default}
+use Rattle.std.proofs.Common.{◌≡◌, ℕ, suc, ◌≤◌, ◌==◌, ◌||◌, ◌&&◌, Bool, true, false, cond, not, List, [], ◌∷◌, refl, sym, ◌∙◌, ap, arith, nat_le, nat_lt, Some}
 use Rattle.std.specs.List.{list_all}
 use Rattle.fsrm_model.specs.declared.row.Capacity.{Capacity}
 use Rattle.fsrm_model.specs.declared.row.NodeRow.{NodeRow}
-use Rattle.fsrm_model.specs.nodes.Fresh.{root_node}
 use Rattle.fsrm_base.specs.Keyed.{is_ascending, has_row}
 use Rattle.fsrm_model.specs.values.Name.{same_name}
 use Rattle.fsrm_model.specs.nodes.Tree.{number, node_of, is_folder, is_child, is_under, name_bytes}
@@ -15,12 +12,9 @@ use Rattle.fsrm_base.proofs.Members.{all_found, all_pass}
 use Rattle.fsrm_base.proofs.Order.{is_above, join, parts}
 use Rattle.fsrm_base.proofs.TestLaws.{both, both_true, clash, eq_is, eq_same, is_false, lt_is, lt_test, not_true, le_is, le_test}
 use Rattle.fsrm_model.proofs.valid.ValidVolume.{volume_of_tree}
-use Rattle.volume_tree.specs.Kept.{IsOrder, is_before}
 use Rattle.fsrm_model.specs.values.Limits.{latest_moment, longest_file}
+use Rattle.volume_tree.specs.Late.{AreApart}
 use Rattle.volume_tree.specs.Sound.{HasTwins, are_from, are_sound, is_in_range, is_placed}
-use Rattle.volume_tree.proofs.ordering.Entries.{entry_of}
-use Rattle.volume_tree.proofs.ordering.Names.{comes_apart}
-use Rattle.fsrm_model.proofs.nodes.Keeps.{same_turned}
 
 -- what numbers that ascend below a bound have
 pub record From (n bound : ℕ) (row : NodeRow) (rows : List NodeRow) : Type 0 where
@@ -143,43 +137,18 @@ bad_twins K nodes t =
     let v = volume_of_tree K nodes is in
     t.apart (v.alone t.other.number t.one.number t.other t.one t.other_found t.one_found t.other_inner t.one_inner t.folder t.name))
 
--- children of one name stand at one place of an order
-
-before_other : (a b : NodeRow) → is_before a b.parent b.name ≡ true → a.parent ≡ b.parent → same_name a.name b.name ≡ true → ⊥
-before_other a b h e s = clash (same_name a.name b.name) s (comes_apart a.parent a.name b.parent b.name h e)
-
-alone_in : (nodes : List NodeRow) (order : List ℕ) (h : IsOrder nodes order) (r s : NodeRow) → node_of nodes r.number ≡ Some r → node_of nodes s.number ≡ Some s → (r.number == 0) ≡ false → (s.number == 0) ≡ false → s.parent ≡ r.parent → same_name s.name r.name ≡ true → s.number ≡ r.number
-alone_in nodes order h r s f g i j up same =
-    let x = entry_of nodes order r.number r h f i in
-    let y = entry_of nodes order s.number s h g j in
-    let x_is = get_or_default h.entries x.0 root_node r x.1 ∙ x.2 in
-    let y_is = get_or_default h.entries y.0 root_node s y.1 ∙ y.2 in
-    elim (cases_order x.0 y.0) [
-      | inl e ↦ ap number (sym y_is ∙ (ap (λ k. get_or h.entries k root_node) (sym e) ∙ x_is))
-      | inr e ↦ elim e [
-        | inl l ↦
-            let before = h.ascending x.0 y.0 root_node l y.1 in
-            let before_s : is_before r s.parent s.name ≡ true = sym (ap (λ (a : NodeRow). is_before a s.parent s.name) x_is) ∙ (sym (ap (λ (b : NodeRow). is_before (get_or h.entries x.0 root_node) b.parent b.name) y_is) ∙ before) in
-            absurd (before_other r s before_s (sym up) (same_turned s.name r.name same))
-        | inr l ↦
-            let before = h.ascending y.0 x.0 root_node l x.1 in
-            let before_r : is_before s r.parent r.name ≡ true = sym (ap (λ (a : NodeRow). is_before a r.parent r.name) y_is) ∙ (sym (ap (λ (b : NodeRow). is_before (get_or h.entries y.0 root_node) b.parent b.name) x_is) ∙ before) in
-            absurd (before_other s r before_r up same)
-      ]
-    ]
-
 either : (a b : Bool) → (b ≡ true → a ≡ true) → (a || not b) ≡ true
 either true b h = refl
 either false true h = h refl
 either false false h = refl
 
-only_one : (nodes : List NodeRow) (order : List ℕ) (h : IsOrder nodes order) → is_ascending number nodes ≡ true → (r : NodeRow) → node_of nodes r.number ≡ Some r → (r.number == 0) ≡ false → is_only_one nodes r ≡ true
-only_one nodes order h a r f i =
+only_one : (nodes : List NodeRow) → AreApart nodes → is_ascending number nodes ≡ true → (r : NodeRow) → node_of nodes r.number ≡ Some r → (r.number == 0) ≡ false → is_only_one nodes r ≡ true
+only_one nodes h a r f i =
     all_pass number (λ (other : NodeRow). (other.number == r.number) || not (is_child r.parent other && same_name other.name r.name)) nodes a (λ s g.
     either (s.number == r.number) (is_child r.parent s && same_name s.name r.name) (λ t.
     let halves = both (is_child r.parent s) (same_name s.name r.name) t in
     let child = both (not (s.number == 0)) (s.parent == r.parent) halves.0 in
-    let same = alone_in nodes order h r s f g i (is_false _ child.0) (eq_is s.parent r.parent child.1) halves.1 in
+    let same = h.alone r.number s.number r s f g i (is_false _ child.0) (eq_is s.parent r.parent child.1) halves.1 in
     ap (λ (k : ℕ). k == r.number) same ∙ eq_same r.number))
 
 sound_at : (nodes : List NodeRow) (r : NodeRow) (b : Bool) → (r.number == 0) ≡ b → cond b (is_root_node r) (is_own r && is_folder nodes r.parent) ≡ true → is_under nodes 0 r.number ≡ true → (b ≡ false → is_only_one nodes r ≡ true) → cond b (is_root_node r) (is_inner_node nodes r) ≡ true
@@ -206,8 +175,8 @@ pub sound_ascending : (bound : ℕ) (nodes : List NodeRow) → are_sound bound n
 sound_ascending bound nodes h = from_ascending 0 bound nodes (sound_parts bound nodes h).numbers
 
 -- rows that pass all parts are a volume
-pub volume_of_parts : (K : Capacity) (nodes : List NodeRow) (order : List ℕ) (used : ℕ) → are_sound K.nodes nodes ≡ true → used ≡ name_bytes nodes → used ≤ K.names → IsOrder nodes order → IsVolume K nodes
-volume_of_parts K nodes order used s sum names h =
+pub volume_of_parts : (K : Capacity) (nodes : List NodeRow) (used : ℕ) → are_sound K.nodes nodes ≡ true → used ≡ name_bytes nodes → used ≤ K.names → AreApart nodes → IsVolume K nodes
+volume_of_parts K nodes used s sum names h =
     let p = sound_parts K.nodes nodes s in
     let a = from_ascending 0 K.nodes nodes p.numbers in
     let below = from_below 0 K.nodes nodes p.numbers in
@@ -217,7 +186,7 @@ volume_of_parts K nodes order used s sum names h =
     (sound_at nodes r (r.number == 0) refl
     (all_found (is_placed nodes) (λ y. number y == r.number) nodes r p.placed f)
     (all_found (λ (r : NodeRow). is_under nodes 0 r.number) (λ y. number y == r.number) nodes r p.rooted f)
-    (λ e. only_one nodes order h a r f e))) in
+    (λ e. only_one nodes h a r f e))) in
     volume_of_tree K nodes
     (both_true (is_ascending number nodes && has_row number 0 nodes) _ (both_true (is_ascending number nodes) (has_row number 0 nodes) a p.root)
     (both_true (list_all (is_sound_node K nodes) nodes) (nat_le (name_bytes nodes) K.names) sound (le_test (name_bytes nodes) K.names (omega (arith, sum, names)))))

@@ -12,7 +12,7 @@ use Rattle.fsrm_base.proofs.Look.{FoundRow, has_found}
 use Rattle.fsrm_base.proofs.Order.{parts, least_free_is}
 use Rattle.fsrm_base.proofs.TestLaws.{clash, lt_is}
 use Rattle.volume_tree.specs.Kept.{rows_of, AreSlots}
-use Rattle.volume_tree.proofs.slotted.SlotRows.{slots_ascend}
+use Rattle.node_order.proofs.SlotRows.{slots_ascend}
 
 -- numbers below the least free one are taken
 below_at : (n k : ℕ) (r : NodeRow) (rows : List NodeRow) (b : Bool) → (r.number == n) ≡ b → n ≤ k → k < cond b (least_free_from number (n + 1) rows) n → (n + 1 ≤ k → k < least_free_from number (n + 1) rows → has_row number k rows ≡ true) → ((r.number == k) || has_row number k rows) ≡ true

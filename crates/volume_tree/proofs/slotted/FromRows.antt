@@ -13,7 +13,7 @@ use Rattle.node_table.specs.Views.{IsInRange}
 use Rattle.node_table.proofs.PlaceLaws.{length-with_at}
 use Rattle.volume_tree.specs.Sound.{are_from, is_in_range}
 use Rattle.volume_tree.proofs.kept.Sound.{from_parts}
-use Rattle.volume_tree.proofs.slotted.SlotLaws.{slots_with}
+use Rattle.node_order.proofs.SlotLaws.{slots_with}
 
 -- an error that is passed on
 pub passed_on : {A B E : Type 0} (r : Result B E) (y fault due : E) → IsErrOf r due → r ≡ Err y → y ≡ fault → IsErrOf {T = A} (Err fault) due

@@ -13,8 +13,8 @@ use Rattle.fsrm_base.proofs.TestLaws.{both, clash, eq_is, eq_same, eq_test, eq_t
 use Rattle.fsrm_base.proofs.NumberLaws.{in_with, in_without, set_with, set_without, first_least}
 use Rattle.volume_tree.specs.Kept.{AreHoles, AreSlots, is_hole, rows_of}
 use Rattle.volume_tree.proofs.slotted.FreshLaws.{fresh_is}
-use Rattle.volume_tree.proofs.slotted.SlotLaws.{filled, row_past}
-use Rattle.volume_tree.proofs.slotted.SlotRows.{slots_ascend}
+use Rattle.node_order.proofs.SlotLaws.{filled, row_past}
+use Rattle.node_order.proofs.SlotRows.{slots_ascend}
 
 -- what isn't a hole among the slots is a row
 filled_slot : (a b : Bool) → (a && not b) ≡ false → a ≡ true → b ≡ true

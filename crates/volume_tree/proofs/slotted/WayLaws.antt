@@ -8,7 +8,7 @@ use Rattle.fsrm_model.proofs.nodes.ChainLaws.{Has}
 use Rattle.node_table.specs.Slots.{slot_at}
 use Rattle.volume_tree.specs.Kept.{rows_of}
 use Rattle.volume_tree.specs.Ways.{IsWay}
-use Rattle.volume_tree.proofs.slotted.SlotLaws.{row_is}
+use Rattle.node_order.proofs.SlotLaws.{row_is}
 
 pub parent_is : (slots : List (Option NodeRow)) (n up : ℕ) → IsWay slots n → option_map (λ (row : NodeRow). row.parent) (slot_at slots n) ≡ Some up → up ≡ parent_of (rows_of slots) n
 parent_is slots n up w is =

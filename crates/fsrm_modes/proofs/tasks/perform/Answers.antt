@@ -1,4 +1,4 @@
-use Rattle.std.proofs.Common.{◌+◌, subst, arith}
+use Rattle.std.proofs.Common.{◌+◌, subst, sym, arith}
 use Rattle.fsrm_modes.specs.Expiry.{expire_cost}
 use Rattle.fsrm_modes.specs.Looks.{left_after}
 use Rattle.fsrm_modes.specs.Tasks.{IsFit}
@@ -8,7 +8,7 @@ use Rattle.fsrm_modes.proofs.TaskRuns.{own_performs, script_performs, script_spe
 use Rattle.fsrm_modes.proofs.tasks.perform.Goals as goal
 
 pub move_expired-requires : goal.move_expired-requires
-move_expired-requires g c = record { moment = subst IsFit c.in-Moves.is c.requires.fit; ready = c.requires.ready }
+move_expired-requires g c = record { moment = subst IsFit c.in-Moves.is c.requires.fit; ready = rw c.arrange.ensures c.requires.ready }
 
 pub tell_and_run-requires : goal.tell_and_run-requires
 tell_and_run-requires g c = record { moment = subst IsFit c.in-Jobs.is c.requires.fit; ready = c.requires.ready }
@@ -44,13 +44,13 @@ returns-in-Moves g c =
     let run = c.move_expired in
     let says = run.ensures in
     let ended = c.told-in-Moves in
-    let was = c.args.session.now in
+    let was = c.arrange.new.self in
     let old = c.args.outside.now in
     let own = Moves c.in-Moves.ask in
-    record {
+    rw (sym c.arrange.ensures) (record {
       performs = own_performs c.args.task own run.result ended.result was run.new.session old run.new.outside c.in-Moves.is tt ended.ensures says.runs (on_ok run.result (λ take. take.flush) says.ready) says.memory says.counts says.reads says.left;
       looks = λ script given. task_spends c.args.task own script run.result ended.result was run.new.session old c.args.steps.now (c.args.steps.now + expire_cost was.store.engine.size was.store.engine.rows c.in-Moves.ask.now) run.new.steps c.in-Moves.is tt ended.ensures (omega arith) says.looks;
-    }
+    })
 
 pub returns-in-Jobs : goal.returns-in-Jobs
 returns-in-Jobs g c =

@@ -7,8 +7,8 @@ use Rattle.fsrm_parts.specs.Applying.{gets_one}
 use Rattle.fsrm_parts.specs.Walk.{AreThere}
 use Rattle.fsrm_parts.proofs.applied.EligibleFolders.{eligible_sorted}
 use Rattle.fsrm_parts.proofs.walks.WalkLaws.{children_there}
-use Rattle.volume_tree.proofs.ordering.Children.{numbers_many}
-use Rattle.volume_tree.proofs.ordering.Items.{in_order_moves}
+use Rattle.node_order.proofs.Children.{numbers_many}
+use Rattle.node_order.proofs.Items.{in_order_moves}
 use Rattle.fsrm_parts.proofs.autos.given_folders.Goals as goal
 
 pub put_all_given-requires : goal.put_all_given-requires

@@ -3,7 +3,7 @@ use Rattle.std.proofs.lemmas.List.{append-nil}
 use Rattle.std.specs.Prelude.{map}
 use Rattle.fsrm_model.specs.store.Capacities.{is_capacity}
 use Rattle.fsrm_model.specs.nodes.Tree.{number, children_in_order}
-use Rattle.volume_tree.proofs.ordering.Children.{numbers_many}
+use Rattle.node_order.proofs.Children.{numbers_many}
 use Rattle.number_set.specs.Numbers.{Numbers}
 use Rattle.rescan.proofs.unvisited.EnterLaws.{Entered, none_entered, more_entered, all_entered, part_small, part_there}
 use Rattle.rescan.proofs.counted.FitLaws.{total_small}

@@ -4,8 +4,7 @@ use Rattle.fsrm_model.specs.lines.ValueForms.{path_of, report_of, text_of}
 use Rattle.fsrm_model.specs.lines.Options.{report_key, scope_key, task_key}
 use Rattle.fsrm_model.specs.lines.Tools.{job_add}
 use Rattle.command_words.specs.Taking.{left, end}
-use Rattle.tool_commands.proofs.NeededOptions.{lacking, needs_some}
-use Rattle.tool_commands.proofs.ReportOptions.{filter_is, job_read}
+use Rattle.tool_commands.proofs.NeededOptions.{asked, lacking, needs_some}
 use Rattle.tool_commands.proofs.reports.add.Goals as goal
 
 pub returns-in_err-name-2 : goal.returns-in_err-name-2
@@ -32,9 +31,9 @@ returns-in_err-scope c =
 pub returns : goal.returns
 returns c =
     let is = c.in_ok-name.ensures in
+    let given = is.read.0 in
     let held = is.read.2 in
-    let asked = held.1.1 in
-    job_read (end c.args.words.now) (left c.args.words.now) is.read.0 c.in_ok-name-2.name c.in_ok-kind.kind c.in_ok-scope.scope c.in_ok-name.schedule _ is.read.1
-    (sym held.0.0.value ∙ c.in_ok-name-2.ensures) (sym held.0.1.value ∙ c.in_ok-kind.ensures) (sym held.1.0.0.value ∙ c.in_ok-scope.ensures) held.1.0.1.value
-    (filter_is is.read.0 c.in_ok-name.filter.0.0 c.in_ok-name.filter.0.1 c.in_ok-name.filter.1.0 c.in_ok-name.filter.1.1.0 c.in_ok-name.filter.1.1.1.0 c.in_ok-name.filter.1.1.1.1 c.unwrap_or.result
-    asked.0.0.value asked.0.1.value asked.1.0.value asked.1.1.0.value asked.1.1.1.0.value asked.1.1.1.1.value c.unwrap_or.ensures)
+    asked job_add (end c.args.words.now) (left c.args.words.now) given _ is.read.1
+    (needs_some text_of task_key given _ c.in_ok-name-2.name (sym held.0.0.value ∙ c.in_ok-name-2.ensures)
+    ∙ (needs_some report_of report_key given _ c.in_ok-kind.kind (sym held.0.1.value ∙ c.in_ok-kind.ensures)
+    ∙ (needs_some path_of scope_key given _ c.in_ok-scope.scope (sym held.1.0.0.value ∙ c.in_ok-scope.ensures) ∙ cc)))

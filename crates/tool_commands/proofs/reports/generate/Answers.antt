@@ -4,8 +4,7 @@ use Rattle.fsrm_model.specs.lines.ValueForms.{path_of, report_of}
 use Rattle.fsrm_model.specs.lines.Options.{report_key, scope_key}
 use Rattle.fsrm_model.specs.lines.Tools.{report_generate}
 use Rattle.command_words.specs.Taking.{left, end}
-use Rattle.tool_commands.proofs.NeededOptions.{lacking, needs_some}
-use Rattle.tool_commands.proofs.ReportOptions.{filter_is, report_read}
+use Rattle.tool_commands.proofs.NeededOptions.{asked, lacking, needs_some}
 use Rattle.tool_commands.proofs.reports.generate.Goals as goal
 
 pub returns-in_err-kind-2 : goal.returns-in_err-kind-2
@@ -24,9 +23,8 @@ returns-in_err-scope c =
 pub returns : goal.returns
 returns c =
     let is = c.in_ok-kind.ensures in
+    let given = is.read.0 in
     let held = is.read.2 in
-    let asked = held.1.1 in
-    report_read (end c.args.words.now) (left c.args.words.now) is.read.0 c.in_ok-kind-2.kind c.in_ok-scope.scope _ is.read.1
-    (sym held.0.value ∙ c.in_ok-kind-2.ensures) (sym held.1.0.value ∙ c.in_ok-scope.ensures)
-    (filter_is is.read.0 c.in_ok-kind.filter.0.0 c.in_ok-kind.filter.0.1 c.in_ok-kind.filter.1.0 c.in_ok-kind.filter.1.1.0 c.in_ok-kind.filter.1.1.1.0 c.in_ok-kind.filter.1.1.1.1 c.unwrap_or.result
-    asked.0.0.value asked.0.1.value asked.1.0.value asked.1.1.0.value asked.1.1.1.0.value asked.1.1.1.1.value c.unwrap_or.ensures)
+    asked report_generate (end c.args.words.now) (left c.args.words.now) given _ is.read.1
+    (needs_some report_of report_key given _ c.in_ok-kind-2.kind (sym held.0.value ∙ c.in_ok-kind-2.ensures)
+    ∙ (needs_some path_of scope_key given _ c.in_ok-scope.scope (sym held.1.0.value ∙ c.in_ok-scope.ensures) ∙ cc))

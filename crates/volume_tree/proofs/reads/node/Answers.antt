@@ -1,5 +1,5 @@
 use Rattle.std.proofs.Common.{◌∙◌}
-use Rattle.volume_tree.proofs.slotted.SlotLaws.{row_is, there_is}
+use Rattle.node_order.proofs.SlotLaws.{row_is, there_is}
 use Rattle.volume_tree.proofs.reads.node.Goals as goal
 
 pub node-requires : goal.node-requires

@@ -1,5 +1,5 @@
 use Rattle.std.proofs.Common.{◌∙◌}
-use Rattle.volume_tree.proofs.slotted.SlotLaws.{there_is}
+use Rattle.node_order.proofs.SlotLaws.{there_is}
 use Rattle.volume_tree.proofs.slots.is_there.Goals as goal
 
 pub returns : goal.returns

@@ -1,5 +1,5 @@
 use Rattle.std.proofs.Common.{sym, ◌∙◌}
-use Rattle.volume_tree.proofs.slotted.SlotLaws.{row_is}
+use Rattle.node_order.proofs.SlotLaws.{row_is}
 use Rattle.volume_tree.proofs.slots.row.Goals as goal
 
 pub returns : goal.returns

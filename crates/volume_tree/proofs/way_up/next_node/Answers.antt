@@ -3,7 +3,7 @@ use Rattle.fsrm_model.specs.nodes.Tree.{above}
 use Rattle.fsrm_model.proofs.nodes.Climbs.{above_lacks, above_next, above_root, own_then_above}
 use Rattle.volume_tree.specs.Kept.{rows_of}
 use Rattle.volume_tree.specs.Ways.{left}
-use Rattle.volume_tree.proofs.slotted.SlotLaws.{there_is}
+use Rattle.node_order.proofs.SlotLaws.{there_is}
 use Rattle.volume_tree.proofs.slotted.WayLaws.{parent_is, way_next}
 use Rattle.volume_tree.proofs.way_up.next_node.Goals as goal
 

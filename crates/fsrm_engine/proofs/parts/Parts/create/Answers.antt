@@ -159,7 +159,7 @@ returns-clause-looks g c =
       c.in-Ok.ensures.looks,
       c.judge-judged.ensures.looks,
       c.in_default-admit.ensures.looks,
-      c.make_file-node.ensures.looks,
+      c.make_file-node.ensures.count,
       c.follow_create.ensures.looks,
       c.end_named.ensures.looks,
       made_chain v c.make_file-node.new.self c.make_file-node.result c.in-Ok.found.0.folder c.in-Ok.found.0.name.now false c.args.length c.args.owner c.args.moment k at.folder_is c.make_file-node.ensures.made c.make_file-node.ensures.number,

@@ -1,7 +1,8 @@
-use Rattle.std.proofs.Common.{◌≡◌, length, Err, ap, sym, ◌∙◌, arith, rules}
+use Rattle.std.proofs.Common.{◌≡◌, length, Err, ap, subst, sym, ◌∙◌, arith, rules}
 use Rattle.fsrm_base.specs.Keyed.{is_ascending}
 use Rattle.fsrm_model.specs.nodes.Tree.{number}
 use Rattle.fsrm_model.specs.store.Capacities.{is_capacity}
+use Rattle.fsrm_model.specs.store.Valid.{IsVolume}
 use Rattle.volume_tree.specs.Volume.{Volume}
 use Rattle.volume_tree.specs.declared.answer.RowsFault.{RowsFault}
 use Rattle.volume_tree.specs.declared.answer.RowsFault.TheVariants.{BadRows}
@@ -27,18 +28,21 @@ pub over_rows-requires-clause-kept : goal.over_rows-requires-clause-kept
 over_rows-requires-clause-kept g c = sym c.are_kept.ensures ∙ c.if-not-are_kept.false
 
 pub over_rows-requires-clause-nodes : goal.over_rows-requires-clause-nodes
-over_rows-requires-clause-nodes g c = ap (λ (v : Volume). v.nodes) c.in_ok-tree.ensures.ok
+over_rows-requires-clause-nodes g c = ap (λ (v : Volume). v.nodes) (c.arrange_for_sums.ensures ∙ c.in_ok-tree.ensures.ok)
+
+pub over_rows-requires-clause-volume : goal.over_rows-requires-clause-volume
+over_rows-requires-clause-volume g c = subst (λ (v : Volume). IsVolume v.size v.nodes) (sym c.arrange_for_sums.ensures) c.in_ok-tree.ensures.kept
 
 pub over_rows-requires-clause-legal : goal.over_rows-requires-clause-legal
-over_rows-requires-clause-legal g c = ap (λ (v : Volume). is_capacity v.size) c.in_ok-tree.ensures.ok ∙ c.requires
+over_rows-requires-clause-legal g c = ap (λ (v : Volume). is_capacity v.size) (c.arrange_for_sums.ensures ∙ c.in_ok-tree.ensures.ok) ∙ c.requires
 
 pub returns-clause-machine : goal.returns-clause-machine
 returns-clause-machine g c =
-    made_machine c.over_rows.result c.args.size c.args.rows.now c.in_ok-tree.tree c.in_ok-tree.ensures.ok (sym c.are_kept.ensures ∙ c.if-not-are_kept.false) c.over_rows.ensures.ok
+    made_machine c.over_rows.result c.args.size c.args.rows.now c.arrange_for_sums.new.tree (c.arrange_for_sums.ensures ∙ c.in_ok-tree.ensures.ok) (sym c.are_kept.ensures ∙ c.if-not-are_kept.false) c.over_rows.ensures.ok
 
 pub returns-clause-whole : goal.returns-clause-whole
 returns-clause-whole g c =
-    made_whole c.over_rows.result c.args.size c.args.rows.now c.in_ok-tree.tree c.in_ok-tree.ensures.ok c.requires c.in_ok-tree.ensures.kept c.in_ok-tree.ensures.may (sym c.are_kept.ensures ∙ c.if-not-are_kept.false) c.over_rows.ensures.may c.over_rows.ensures.ok
+    made_whole c.over_rows.result c.args.size c.args.rows.now c.arrange_for_sums.new.tree (c.arrange_for_sums.ensures ∙ c.in_ok-tree.ensures.ok) c.requires (subst (λ (v : Volume). IsVolume v.size v.nodes) (sym c.arrange_for_sums.ensures) c.in_ok-tree.ensures.kept) c.in_ok-tree.ensures.may (sym c.are_kept.ensures ∙ c.if-not-are_kept.false) c.over_rows.ensures.may c.over_rows.ensures.ok
 
 pub returns-clause-may : goal.returns-clause-may
 returns-clause-may g c =
@@ -49,4 +53,4 @@ returns-clause-bad g c h = not_fitting c.args.size c.args.rows.now (c.over_rows.
 
 pub returns-clause-looks : goal.returns-clause-looks
 returns-clause-looks g c =
-    omega (arith, c.over_rows.ensures.looks, ap (λ (v : Volume). length v.nodes) c.in_ok-tree.ensures.ok)
+    omega (arith, c.over_rows.ensures.looks, ap (λ (v : Volume). length v.nodes) (c.arrange_for_sums.ensures ∙ c.in_ok-tree.ensures.ok))

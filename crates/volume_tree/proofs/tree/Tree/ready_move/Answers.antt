@@ -8,7 +8,9 @@ use Rattle.fsrm_model.proofs.nodes.Keeps.{tree_of}
 use Rattle.fsrm_model.proofs.valid.ValidLaws.{folder_has}
 use Rattle.volume_tree.specs.Kept.{rows_of}
 use Rattle.volume_tree.specs.Volume.{Volume}
-use Rattle.volume_tree.proofs.kept.KeptLaws.{few_order, name_fits, sought_in, sought_alone, volume_placed}
+use Rattle.volume_tree.proofs.kept.KeptLaws.{name_fits, volume_placed}
+use Rattle.volume_tree.proofs.kept.MoveLaws.{found_alone}
+use Rattle.volume_tree.proofs.late.Registers.{volume_apart}
 use Rattle.volume_tree.proofs.tree.Tree.ready_move.Goals as goal
 
 pub is_at_or_below-requires-clause-tree : goal.is_at_or_below-requires-clause-tree
@@ -18,8 +20,8 @@ pub is_at_or_below-requires-clause-there : goal.is_at_or_below-requires-clause-t
 is_at_or_below-requires-clause-there g c =
     folder_has (rows_of c.self.inside.slots.slots) c.args.folder (ap (λ (v : Volume). is_folder v.nodes c.args.folder) c.self.view_is ∙ c.requires.folder)
 
-pub search-found-requires-clause-few : goal.search-found-requires-clause-few
-search-found-requires-clause-few g c = few_order _ _ _ _ _ _ c.self.invariant.kept
+pub child-requires-clause-apart : goal.child-requires-clause-apart
+child-requires-clause-apart g c = volume_apart c.self.inside.size _ c.self.invariant.kept.volume
 
 pub name_length-old_bytes-requires-clause-short : goal.name_length-old_bytes-requires-clause-short
 name_length-old_bytes-requires-clause-short g c =
@@ -33,16 +35,12 @@ pub returns-clause-volume : goal.returns-clause-volume
 returns-clause-volume g c =
     let i = c.self.inside in
     let slots = i.slots.slots in
-    let runs = i.order.runs in
     let node = c.args.node in
     let folder = c.args.folder in
     let name = c.args.name.now in
     let has : has_row number node (rows_of slots) ≡ true = ap (λ (v : Volume). has_row number node v.nodes) c.self.view_is ∙ c.requires.there in
     let apart : is_under (rows_of slots) node folder ≡ false = sym c.is_at_or_below.ensures.value ∙ c.if-is_at_or_below.false in
-    let search = c.search-found.ensures in
-    let sought = sought_in slots slots runs folder name name c.search-found.result refl refl
-    (record { free = search.free; taken = search.found; none = search.none }) in
-    let alone = sought_alone (rows_of slots) runs node folder name c.search-found.result c.is_other.result sought c.is_other.ensures.ok c.if-is_other.false in
+    let alone = found_alone (rows_of slots) node folder name c.child.result c.ok-found.result c.child.ensures.ok c.child.ensures.err c.ok-found.ensures.value (sym c.is_other.ensures ∙ c.if-is_other.false) in
     let bytes : c.name_length-old_bytes.result ≡ length (name_of (rows_of slots) node) = c.name_length-old_bytes.ensures.bytes in
     let used = c.self.invariant.kept.used_is in
     let room : name_bytes (rows_of slots) + length name ≤ i.size.names + length (name_of (rows_of slots) node) = omega (arith, bytes, used) in

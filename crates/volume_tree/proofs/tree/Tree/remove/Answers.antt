@@ -1,4 +1,4 @@
-use Rattle.std.proofs.Common.{◌≡◌, ℕ, ◌-◌, Bool, true, false, length, [], Option, Some, None, sym, ◌∙◌, ap, subst, arith}
+use Rattle.std.proofs.Common.{◌≡◌, ℕ, ◌-◌, Bool, true, false, length, [], ◌∷◌, Option, Some, None, sym, ◌∙◌, ap, subst, arith, refl}
 use Rattle.std.specs.Prelude.{not, ◌==◌}
 use Rattle.std.specs.Option.{option_map_or}
 use Rattle.fsrm_model.specs.declared.row.NodeRow.{NodeRow}
@@ -11,20 +11,20 @@ use Rattle.fsrm_model.proofs.nodes.UsageLaws.{no_child_of_file}
 use Rattle.fsrm_model.proofs.nodes.Walks.{found_name}
 use Rattle.fsrm_model.proofs.valid.CapacityLaws.{names_most}
 use Rattle.number_set.specs.Numbers.{Numbers}
-use Rattle.block_list.specs.Places.{index_of}
-use Rattle.node_table.specs.Slots.{with_slot}
 use Rattle.node_table.specs.Table.{Table}
 use Rattle.node_table.specs.Views.{seen}
+use Rattle.node_order.proofs.SlotLaws.{rows_gone, there_is}
 use Rattle.volume_tree.specs.Kept.{IsHeld, rows_of}
 use Rattle.volume_tree.specs.Volume.{Volume, remove_fault, without_node}
-use Rattle.volume_tree.proofs.kept.HeldLaws.{volume}
-use Rattle.volume_tree.proofs.slotted.SlotLaws.{filled, length_kept, rows_gone, slots_with, there_is}
+use Rattle.volume_tree.proofs.kept.EnterLaws.{left_gone}
+use Rattle.volume_tree.proofs.kept.HeldLaws.{gone_table, held_gone, held_settled, volume}
 use Rattle.volume_tree.specs.declared.answer.TreeFault.TheVariants.{NotEmpty}
-use Rattle.volume_tree.proofs.kept.KeptLaws.{few_order, own_found, name_fits, node_below, kept_gone}
+use Rattle.volume_tree.proofs.kept.KeptLaws.{name_fits, node_below, volume_gone}
+use Rattle.volume_tree.proofs.late.Registers.{volume_apart}
 use Rattle.volume_tree.proofs.tree.Tree.remove.Goals as goal
 
-pub has_child-requires-clause-few : goal.has_child-requires-clause-few
-has_child-requires-clause-few g c = few_order _ _ _ _ _ _ c.self.invariant.kept
+pub arrange_if_many-requires-clause-apart : goal.arrange_if_many-requires-clause-apart
+arrange_if_many-requires-clause-apart g c = volume_apart c.self.inside.size _ c.self.invariant.kept.volume
 
 pub has_child-requires-clause-file : goal.has_child-requires-clause-file
 has_child-requires-clause-file g c =
@@ -35,6 +35,9 @@ has_child-requires-clause-file g c =
     let kind : is_folder (rows_of nodes) c.args.node ≡ false = ap (λ (o : Option NodeRow). option_map_or (λ (r : NodeRow). r.folder) o false) found ∙ file in
     let none : children (rows_of nodes) c.args.node ≡ [] = no_child_of_file c.self.inside.size _ c.args.node c.self.invariant.kept.volume kind in
     ap (children (rows_of nodes)) (found_key number c.args.node (rows_of nodes) row found) ∙ none
+
+pub invariant_of-self : goal.invariant_of-self
+invariant_of-self g c = held_settled _ _ _ _ _ c.self.inside.register _ c.self.invariant c.arrange_if_many.ensures.register c.arrange_if_many.ensures.room
 
 pub returns-then-has_child-clause-refused : goal.returns-then-has_child-clause-refused
 returns-then-has_child-clause-refused g c =
@@ -47,6 +50,12 @@ returns-then-has_child-clause-refused g c =
     ∙ (sym c.has_child.ensures.value ∙ c.if-has_child.true) in
     sym (ap (λ (v : Volume). remove_fault v n) c.self.view_is) ∙ ap (λ (b : Bool). NotEmpty when b) filled
 
+pub returns-then-has_child-clause-err : goal.returns-then-has_child-clause-err
+returns-then-has_child-clause-err g c = c.self.view_is
+
+pub returns-then-has_child-clause-kept : goal.returns-then-has_child-clause-kept
+returns-then-has_child-clause-kept g c = c.self.invariant.kept.volume
+
 pub returns-clause-may : goal.returns-clause-may
 returns-clause-may g c =
     let n = c.args.node in
@@ -58,15 +67,19 @@ returns-clause-may g c =
     ∙ (sym c.has_child.ensures.value ∙ c.if-has_child.false) in
     sym (ap (λ (v : Volume). remove_fault v n) c.self.view_is) ∙ ap (λ (b : Bool). NotEmpty when b) leaf
 
-pub own_place-place-requires-clause-few : goal.own_place-place-requires-clause-few
-own_place-place-requires-clause-few g c = few_order _ _ _ _ _ _ c.self.invariant.kept
-
-pub own_place-place-requires-clause-own : goal.own_place-place-requires-clause-own
-own_place-place-requires-clause-own g c =
+pub leave-requires : goal.leave-requires
+leave-requires g c =
+    let i = c.self.inside in
+    let nodes = rows_of i.slots.slots in
     let row : NodeRow = seen c.node-row.result in
-    let slots = c.self.inside.slots.slots in
-    let found : node_of (rows_of slots) c.args.node ≡ Some row = c.node-row.ensures.node in
-    own_found c.self.inside.size _ c.args.node row c.self.invariant.kept.volume found c.requires.inner
+    let own : row.number ≡ c.args.node = found_key number c.args.node nodes row c.node-row.ensures.node in
+    record {
+      slots = c.self.invariant.kept.slots_are;
+      apart = volume_apart i.size nodes c.self.invariant.kept.volume;
+      there = ap (node_of nodes) own ∙ c.node-row.ensures.node;
+      inner = ap (λ (m : ℕ). m == 0) own ∙ c.requires.inner;
+      register = c.arrange_if_many.ensures.register;
+    }
 
 pub overflow_cast-bytes : goal.overflow_cast-bytes
 overflow_cast-bytes g c =
@@ -91,29 +104,27 @@ overflow_sub-self-2 g c =
     let used = c.self.invariant.kept.used_is in
     omega (arith, fit, bytes, used)
 
-pub invariant_of-self : goal.invariant_of-self
-invariant_of-self g c =
-    let has : has_row number c.args.node (rows_of c.self.inside.slots.slots) ≡ true = ap (λ (v : Volume). has_row number c.args.node v.nodes) c.self.view_is ∙ c.requires.there in
+pub invariant_of-self-2 : goal.invariant_of-self-2
+invariant_of-self-2 g c =
     let i = c.self.inside in
-    let slots = i.slots.slots in
-    let row : NodeRow = seen c.node-row.result in
-    let found : node_of (rows_of slots) c.args.node ≡ Some row = c.node-row.ensures.node in
-    let own : row.number ≡ c.args.node = found_key number c.args.node (rows_of slots) row found in
-    let leaf : not (length (children (rows_of slots) c.args.node) == 0) ≡ false =
-    ap (λ (n : ℕ). not (length (children (rows_of slots) n) == 0)) (sym own)
-    ∙ (sym c.has_child.ensures.value ∙ c.if-has_child.false) in
-    let bytes : length row.name ≡ length (name_of (rows_of slots) c.args.node) = ap length (sym (found_name (rows_of slots) c.args.node row found)) in
-    let at = index_of i.order.runs c.own_place-place.result in
     let h = c.self.invariant in
-    let a = h.kept.slots_are in
-    let within = (filled slots c.args.node a has).within in
-    let kept = kept_gone i.size i.count i.used i.holes slots (with_slot slots c.args.node None) i.order c.remove.new.self c.args.node at h.kept has c.requires.inner leaf (c.own_place-place.ensures.place ∙ ap Some own) (slots_with c.args.node slots None a tt) (rows_gone c.args.node slots a) (length_kept c.args.node slots None within) c.remove.ensures.numbers c.remove.ensures.entries c.remove.ensures.room in
-    let holes : Numbers = record i.holes { members = with_number c.args.node i.holes.members } in
-    let table : Table = record i.slots { slots = with_slot slots c.args.node None } in
-    let held : IsHeld i.size (i.count - 1) (i.used - length (name_of (rows_of slots) c.args.node)) holes table c.remove.new.self = record { nodes_are = h.nodes_are; names_are = h.names_are; kept = kept } in
-    subst (λ (t : Table). IsHeld i.size (i.count - 1) (i.used - length row.name) c.insert.new.self t c.remove.new.self) (sym c.take_away.ensures)
-    (subst (λ (set : Numbers). IsHeld i.size (i.count - 1) (i.used - length row.name) set table c.remove.new.self) (sym c.insert.ensures)
-    (subst (λ (n : ℕ). IsHeld i.size (i.count - 1) (i.used - n) holes table c.remove.new.self) (sym bytes) held))
+    let n = c.args.node in
+    let nodes = rows_of i.slots.slots in
+    let has : has_row number n nodes ≡ true = ap (λ (v : Volume). has_row number n v.nodes) c.self.view_is ∙ c.requires.there in
+    let row : NodeRow = seen c.node-row.result in
+    let found : node_of nodes n ≡ Some row = c.node-row.ensures.node in
+    let leaf : not (length (children nodes n) == 0) ≡ false =
+    ap (λ (k : ℕ). not (length (children nodes k) == 0)) (sym (found_key number n nodes row found))
+    ∙ (sym c.has_child.ensures.value ∙ c.if-has_child.false) in
+    let less = volume_gone i.size nodes n h.kept.volume has c.requires.inner leaf in
+    let bytes : length row.name ≡ length (name_of nodes n) = ap length (sym (found_name nodes n row found)) in
+    let room = c.leave.ensures.room ∙ c.arrange_if_many.ensures.room in
+    let register = left_gone i.size i.slots c.leave.new.self n row h.kept.slots_are h.kept.volume less found c.requires.inner (room ∙ h.kept.room_is) c.leave.ensures.left in
+    let held = held_gone i.size i.count i.used i.holes i.slots i.register c.leave.new.self n h has less register room in
+    let holes : Numbers = record i.holes { members = with_number n i.holes.members } in
+    subst (λ (t : Table). IsHeld i.size (i.count - 1) (i.used - length row.name) c.insert.new.self t c.leave.new.self) (sym c.take_away.ensures)
+    (subst (λ (set : Numbers). IsHeld i.size (i.count - 1) (i.used - length row.name) set (gone_table i.slots n) c.leave.new.self) (sym c.insert.ensures)
+    (subst (λ (m : ℕ). IsHeld i.size (i.count - 1) (i.used - m) holes (gone_table i.slots n) c.leave.new.self) (sym bytes) held))
 
 pub take_away-requires : goal.take_away-requires
 take_away-requires g c =
@@ -134,4 +145,4 @@ insert-requires g c =
     omega (arith, below, bound)
 
 pub returns-clause-kept : goal.returns-clause-kept
-returns-clause-kept g c = (invariant_of-self g c).kept.volume
+returns-clause-kept g c = (invariant_of-self-2 g c).kept.volume

@@ -5,8 +5,8 @@ use Rattle.fsrm_model.specs.meaning.PathNames.{left}
 use Rattle.fsrm_model.specs.nodes.Tree.{child_number}
 use Rattle.volume_tree.specs.Kept.{rows_of}
 use Rattle.volume_tree.specs.Volume.{Volume}
-use Rattle.volume_tree.proofs.kept.KeptLaws.{few_order}
 use Rattle.volume_tree.proofs.kept.WalkLaws.{get_take, name_at, more_at, some_at, walk_next, walk_end, resolves}
+use Rattle.volume_tree.proofs.late.Registers.{volume_apart}
 use Rattle.volume_tree.proofs.tree.Tree.resolve_next.Goals as goal
 
 -- one more name is left
@@ -15,17 +15,17 @@ returns-in_err-name-clause-value g c =
     let some = some_at (left c.args.names.now) c.loop-place.place c.args.count c.loop-place-test.true c.requires.count in
     absurd (omega (arith, some, ap length (sym c.loop-place.invariant.rest ∙ c.in_err-name.ensures.steps.0)))
 
-pub child-requires-clause-few : goal.child-requires-clause-few
-child-requires-clause-few g c = few_order _ _ _ _ _ _ c.self.invariant.kept
+pub child-requires-clause-apart : goal.child-requires-clause-apart
+child-requires-clause-apart g c = volume_apart c.self.inside.size _ c.self.invariant.kept.volume
 
-pub returns-in-None-clause-value : goal.returns-in-None-clause-value
-returns-in-None-clause-value g c =
+pub returns-in-Err-clause-value : goal.returns-in-Err-clause-value
+returns-in-Err-clause-value g c =
     let nodes = c.args.self.now.nodes in
     let names = left c.args.names.now in
     let path = take c.args.count names in
     let next = sym c.loop-place.invariant.rest ∙ c.in_ok-name.ensures.steps in
     let rows : rows_of c.self.inside.slots.slots ≡ nodes = ap (λ (v : Volume). v.nodes) c.self.view_is in
-    let child : child_number nodes c.loop-place.at c.in_ok-name.name.now ≡ None = ap (λ (ns : List NodeRow). child_number ns c.loop-place.at c.in_ok-name.name.now) (sym rows) ∙ sym c.in-None.ensures.value in
+    let child : child_number nodes c.loop-place.at c.in_ok-name.name.now ≡ None = ap (λ (ns : List NodeRow). child_number ns c.loop-place.at c.in_ok-name.name.now) (sym rows) ∙ c.in-Err.ensures.err in
     let name : slice_get path c.loop-place.place ≡ Some c.in_ok-name.name.now = get_take names c.args.count c.loop-place.place c.in_ok-name.name.now c.loop-place-test.true (name_at names c.loop-place.place c.in_ok-name.name.now (left c.next.new.self) next) in
     resolves c.self.inside.size (rows_of c.self.inside.slots.slots) c.args.self.now path None c.self.invariant.kept.volume c.self.view_is
     (sym c.loop-place.invariant.way ∙ walk_next nodes c.loop-place.at c.loop-place.place path c.in_ok-name.name.now None name child)
@@ -37,12 +37,12 @@ loop-place-preserved g c =
     let path = take c.args.count names in
     let next = sym c.loop-place.invariant.rest ∙ c.in_ok-name.ensures.steps in
     let rows : rows_of c.self.inside.slots.slots ≡ nodes = ap (λ (v : Volume). v.nodes) c.self.view_is in
-    let child : child_number nodes c.loop-place.at c.in_ok-name.name.now ≡ Some c.in-Some.child = ap (λ (ns : List NodeRow). child_number ns c.loop-place.at c.in_ok-name.name.now) (sym rows) ∙ sym c.in-Some.ensures.value in
+    let child : child_number nodes c.loop-place.at c.in_ok-name.name.now ≡ Some c.in-Ok.child = ap (λ (ns : List NodeRow). child_number ns c.loop-place.at c.in_ok-name.name.now) (sym rows) ∙ c.in-Ok.ensures.ok in
     let name : slice_get path c.loop-place.place ≡ Some c.in_ok-name.name.now = get_take names c.args.count c.loop-place.place c.in_ok-name.name.now c.loop-place-test.true (name_at names c.loop-place.place c.in_ok-name.name.now (left c.next.new.self) next) in
-    let looks = c.in-Some.ensures.looks in
-    let some = c.in-Some.ensures.some in
+    let looks = c.in-Ok.ensures.looks in
+    let some = c.in-Ok.ensures.some in
     record {
-      way = sym (walk_next nodes c.loop-place.at c.loop-place.place path c.in_ok-name.name.now (Some c.in-Some.child) name child) ∙ c.loop-place.invariant.way;
+      way = sym (walk_next nodes c.loop-place.at c.loop-place.place path c.in_ok-name.name.now (Some c.in-Ok.child) name child) ∙ c.loop-place.invariant.way;
       rest = more_at names c.loop-place.place c.in_ok-name.name.now (left c.next.new.self) next;
       looks = omega (arith, looks);
       each = omega (arith, some, c.loop-place.invariant.each);

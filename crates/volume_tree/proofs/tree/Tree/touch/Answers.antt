@@ -8,7 +8,7 @@ use Rattle.volume_tree.specs.Kept.{IsHeld, rows_of}
 use Rattle.volume_tree.specs.Volume.{Volume, with_touch}
 use Rattle.volume_tree.proofs.kept.HeldLaws.{volume}
 use Rattle.volume_tree.proofs.kept.KeptLaws.{touched_kept}
-use Rattle.volume_tree.proofs.slotted.SlotLaws.{changed, there_is}
+use Rattle.node_order.proofs.SlotLaws.{changed, there_is}
 use Rattle.volume_tree.proofs.tree.Tree.touch.Goals as goal
 
 pub set_accessed-requires-clause-taken : goal.set_accessed-requires-clause-taken
@@ -23,10 +23,10 @@ invariant_of-self g c =
     let n = c.args.node in
     let has : has_row number n (rows_of i.slots.slots) ≡ true = ap (λ (v : Volume). has_row number n v.nodes) c.self.view_is ∙ c.requires.there in
     let new = changed i.slots.slots n (touched c.args.moment) h.kept.slots_are has (λ r. refl) in
-    subst (λ (table : Table). IsHeld i.size i.count i.used i.holes table i.order) (sym c.set_accessed.ensures) (record {
+    subst (λ (table : Table). IsHeld i.size i.count i.used i.holes table i.register) (sym c.set_accessed.ensures) (record {
       nodes_are = h.nodes_are;
       names_are = h.names_are;
-      kept = touched_kept i.size i.count i.used i.holes i.slots.slots (with_change_at i.slots.slots n (touched c.args.moment)) i.order n c.args.moment h.kept
+      kept = touched_kept i.size i.count i.used i.holes i.slots.slots (with_change_at i.slots.slots n (touched c.args.moment)) i.register n c.args.moment h.kept
           (ap (λ (v : Volume). is_folder v.nodes n) c.self.view_is ∙ c.requires.file) c.requires.moment new.slots_are new.rows_are new.size;
     })
 

@@ -1,0 +1,9 @@
+pub mod BucketLaws
+pub mod Bits
+pub mod ClearLaws
+pub mod DoubleLaws
+pub mod HalfLaws
+pub mod HashLaws
+pub mod IndexLaws
+pub mod LeastLaws
+pub mod WordLaws

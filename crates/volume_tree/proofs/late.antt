@@ -1,0 +1,13 @@
+pub mod Entered
+pub mod Found
+pub mod Listed
+pub mod Named
+pub mod Numbers
+pub mod Parents
+pub mod Registers
+pub mod RowsRead
+pub mod RowsTwins
+pub mod ChildCount
+pub mod ChildNext
+pub mod ChildRuns
+pub mod ChildSettled
