@@ -17,7 +17,9 @@ ghost use Rattle.fsrm_engine.specs.Moves.{IsMove, MayMove, change_of};
 use crate::parts::Parts;
 use file_screens::Blocked;
 use fsrm_model::{Answer, Ledger, NoMemory, Path, Refusal, Steps};
-use fsrm_parts::{Moving, blocking, moved_bytes, moved_source, place_at, refusal_of, refused};
+use fsrm_parts::{
+    Moving, arrange_for_move, blocking, moved_bytes, moved_source, place_at, refusal_of, refused,
+};
 use quota_usage::Change;
 use std::alloc::Global;
 use volume_tree::ReadyMove;
@@ -83,7 +85,31 @@ impl Parts {
             Ok(found) => found,
             Err(refusal) => return Ok(refused(refusal)),
         };
-        let source = moved_source(&self.templates, &self.objects, &moving);
+        arrange_for_move(&mut self.tree, &moving);
+        self.move_ready(alloc, from, to, &moving, ready, moment, steps)
+    }
+
+    // The same of a move that the tree has ready. What made it ready is counted.
+    fn move_ready<L: Ledger>(
+        &mut self,
+        alloc: Global,
+        from: &Path,
+        to: &Path,
+        moving: &Moving<'_>,
+        ready: ReadyMove<'_>,
+        moment: u64,
+        steps: &mut Steps<L>,
+    ) -> Result<Answer, NoMemory>
+        requires ready { IsReady self.old moment }
+        requires moves { IsMove self.old.tree from.now to.now moving.now }
+        requires ready_move { ready ≡ record { node = moving.now.node; folder = moving.now.place.folder; name = moving.now.place.name.now } }
+        ensures ok { IfOk result (λ answer. Does self.old self.new moment (File (Move from.now to.now)) answer) }
+        ensures memory { OnErr result (may_want_memory (rows_of self.old) (File (Move from.now to.now)) ≡ true) }
+        ensures err { OnErr result (self.new ≡ self.old) }
+        ensures sound { IsSound self.new }
+        ensures looks { steps.new + (22 * length from.now + 23 * length to.now + 27) ≤ steps.old + deed_cost (rows_of self.old) (File (Move from.now to.now)) }
+    {
+        let source = moved_source(&self.templates, &self.objects, moving);
         if let Err(refusal) = self.may_come(source) {
             return Ok(refused(refusal));
         }
@@ -92,7 +118,7 @@ impl Parts {
         if let Some(active) = blocking(judged) {
             return Ok(self.block(active, moving.owner, place.folder, place.name, moment));
         }
-        let bytes = moved_bytes(&self.tree, &self.objects, alloc, &moving, source, steps)?;
+        let bytes = moved_bytes(&self.tree, &self.objects, alloc, moving, source, steps)?;
         let change = Change {
             from: Some(moving.parent),
             to: Some(place.folder),
@@ -103,7 +129,7 @@ impl Parts {
             return Ok(self.refuse(exceeded, moment));
         }
         self.make_move(
-            alloc, from, to, &moving, ready, source, judged, &change, moment, steps,
+            alloc, from, to, moving, ready, source, judged, &change, moment, steps,
         )
     }
 

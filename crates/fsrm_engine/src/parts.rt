@@ -7,6 +7,7 @@ ghost use Rattle.fsrm_model.specs.values.Limits.{latest_moment};
 ghost use Rattle.fsrm_model.specs.declared.command.Outcome.TheVariants.{Done};
 ghost use Rattle.quota_usage.specs.Charge.{IsChange, Fits, exceeded_by, height};
 ghost use Rattle.fsrm_engine.specs.Machine.{bare, machine_of, ended, AreCounted, IsWhole};
+ghost use Rattle.fsrm_engine.specs.Restored.{idle_scans};
 
 use file_groups::Groups;
 use file_screens::{Audit, Blocked};
@@ -57,15 +58,16 @@ impl Parts {
         ensures whole { IfOk result IsWhole }
     {
         let tree = Tree::reserve(alloc, size)?;
-        let scans = Scans::reserve(alloc, size.nodes, size.cluster)?;
-        Parts::over(alloc, tree, scans)
+        Parts::over(alloc, tree)
     }
 
-    // Those over a tree, without objects. What has memory of its own comes in steps, since the proof of a function
-    // takes longer the more such parts it owns.
-    pub(crate) fn over(alloc: Global, tree: Tree, scans: Scans) -> Result<Parts, NoMemory>
-        ensures { IfOk result (λ parts. parts ≡ bare tree scans) }
+    // Those over a tree, without objects, in which no scan waits. What has memory of its own comes in steps, since the
+    // proof of a function takes longer the more such parts it owns.
+    pub(crate) fn over(alloc: Global, tree: Tree) -> Result<Parts, NoMemory>
+        ensures { IfOk result (λ parts. parts ≡ bare tree (idle_scans tree.size)) }
     {
+        let size = tree.capacity();
+        let scans = Scans::reserve(alloc, size.nodes, size.cluster)?;
         let usage = Usage::reserve(alloc)?;
         let crossing = NumberSet::reserve(alloc, MOST_QUOTAS as u32)?;
         Parts::with_counters(alloc, tree, scans, usage, crossing)

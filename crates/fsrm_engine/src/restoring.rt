@@ -14,7 +14,6 @@ use fsrm_parts::{
     are_texts_few, arrange_for_sums, begin_all, fill_audit, fill_groups, fill_log, fill_objects,
     fill_templates,
 };
-use rescan::Scans;
 use row_rules::are_kept;
 use std::alloc::Global;
 use volume_tree::{RowsFault, Tree};
@@ -59,21 +58,12 @@ impl Parts {
         ensures bad { IsErrOf result RowsFault.BadRows → are_fitting rows.now ≡ false }
         ensures looks { steps.new ≤ steps.old + 3 * length tree.nodes }
     {
-        let mut parts = match Parts::without_objects(alloc, tree) {
+        let mut parts = match Parts::over(alloc, tree) {
             Ok(parts) => parts,
             Err(NoMemory) => return Err(RowsFault::NoMemory),
         };
         parts.take_rows(alloc, rows, steps)?;
         Ok(parts)
-    }
-
-    // Those over a tree, without objects.
-    fn without_objects(alloc: Global, tree: Tree) -> Result<Parts, NoMemory>
-        ensures { IfOk result (λ parts. parts ≡ bare tree (idle_scans tree.size)) }
-    {
-        let size = tree.capacity();
-        let scans = Scans::reserve(alloc, size.nodes, size.cluster)?;
-        Parts::over(alloc, tree, scans)
     }
 
     // Takes copies of all rows but the nodes, which are there.

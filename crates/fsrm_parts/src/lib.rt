@@ -66,4 +66,4 @@ pub use sums::begin_all;
 pub use threshold_lists::{changed_thresholds, may_be_removed};
 pub use updates::settle_rows;
 pub use usage::usage_of;
-pub use walking::{arrange_for, arrange_for_op, arrange_for_sums};
+pub use walking::{arrange_for, arrange_for_move, arrange_for_op, arrange_for_sums};

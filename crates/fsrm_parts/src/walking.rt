@@ -2,6 +2,7 @@
 
 ghost use Rattle.std.specs.Prelude.{◌≡◌};
 
+use crate::moves::Moving;
 use fsrm_model::{Deed, FileOp, Rows};
 use volume_tree::Tree;
 
@@ -20,15 +21,13 @@ pub fn arrange_for(tree: &mut Tree, deed: &Deed)
     }
 }
 
-/// The same for a file operation. What moves may be a folder, which is added up then. A folder that is to go is asked
-/// for its children: that is quick if few nodes wait to be put into the order.
+/// The same for a file operation. A folder that is to go is asked for its children: that is quick if few nodes wait to be
+/// put into the order. (Whether a folder is to move is known only later: `arrange_for_move`.)
 pub fn arrange_for_op(tree: &mut Tree, op: &FileOp)
     ensures { tree.new ≡ tree.old }
 {
-    match op {
-        FileOp::Move { .. } => tree.arrange(),
-        FileOp::Remove { .. } => tree.arrange_if_many(),
-        _ => {}
+    if matches!(op, FileOp::Remove { .. }) {
+        tree.arrange_if_many();
     }
 }
 
@@ -37,6 +36,15 @@ pub fn arrange_for_sums(tree: &mut Tree, rows: &Rows)
     ensures { tree.new ≡ tree.old }
 {
     if !rows.quotas.is_empty() {
+        tree.arrange();
+    }
+}
+
+/// Puts the nodes of a tree into their order if a folder is to move: what is in it is added up then.
+pub fn arrange_for_move(tree: &mut Tree, moving: &Moving<'_>)
+    ensures { tree.new ≡ tree.old }
+{
+    if moving.folder {
         tree.arrange();
     }
 }
