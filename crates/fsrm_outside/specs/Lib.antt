@@ -19,4 +19,5 @@ pub mod History
 pub mod MemoryOutside
 pub mod MemoryLaws
 pub mod QuietOutside
+pub mod Files
 pub mod RealOutside

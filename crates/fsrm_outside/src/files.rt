@@ -1,6 +1,8 @@
 //! The two files of a store.
 
-ghost use Rattle.std.specs.Prelude.{◌≤◌, length, IfSome};
+ghost use Rattle.std.specs.Prelude.{◌≡◌, ◌≢◌, ◌≤◌, false, length, option_copied, true, IfSome, IsSome, OnSome};
+ghost use Rattle.fsrm_outside.specs.Files.{all_stable, file_of, unsettled, IsFresh};
+ghost use Rattle.fsrm_outside.specs.declared.files.Opened.TheVariants.{NotYet, Refused};
 
 use crate::Part;
 use std::fs::{File, OpenOptions};
@@ -40,21 +42,29 @@ pub struct Files {
 
 impl Files {
     /// Nothing is opened yet.
-    pub fn new() -> Files {
+    pub fn new() -> Files
+        ensures { result.opened ≡ NotYet }
+    {
         Files {
             opened: Opened::NotYet,
         }
     }
 
     /// Opens both files, unless that was done or refused before.
-    pub fn open_once(&mut self, rt: &HostRuntime) {
+    pub fn open_once(&mut self, rt: &HostRuntime)
+        ensures first { self.old.opened ≡ NotYet → IsFresh self.new.opened }
+        ensures tried { self.new.opened ≢ NotYet }
+        ensures later { self.old.opened ≢ NotYet → self.new.opened ≡ self.old.opened }
+    {
         if matches!(self.opened, Opened::NotYet) {
             self.opened = open_both(rt);
         }
     }
 
     /// How long a part is.
-    pub fn len(&self, part: Part) -> Option<u64> {
+    pub fn len(&self, part: Part) -> Option<u64>
+        ensures { OnSome result (IsSome (file_of part self.now.opened)) }
+    {
         match self.file(part)?.metadata() {
             Ok(data) => Some(data.len()),
             Err(_) => None,
@@ -63,13 +73,17 @@ impl Files {
 
     /// Fills the buffer from a place of a part on, up to its end.
     pub fn read_at(&self, part: Part, place: u64, into: &mut [u8]) -> Option<usize>
-        ensures { IfSome result (λ n. n ≤ length into.new) }
+        ensures opened { OnSome result (IsSome (file_of part self.now.opened)) }
+        ensures count { IfSome result (λ n. n ≤ length into.new) }
     {
         filled(self.file(part)?, place, into)
     }
 
     /// Writes the bytes over those of a part, and past its end. False: it failed, and a part of them may be there.
-    pub fn write_at(&mut self, part: Part, place: u64, bytes: &[u8]) -> bool {
+    pub fn write_at(&mut self, part: Part, place: u64, bytes: &[u8]) -> bool
+        ensures opened { result ≡ true → IsSome (file_of part self.old.opened) }
+        ensures unsettled { self.new.opened ≡ unsettled part self.old.opened }
+    {
         match (&mut self.opened, part) {
             (Opened::Both(zero, _, _), Part::Zero) => write_to(zero, place, bytes),
             (Opened::Both(_, one, _), Part::One) => write_to(one, place, bytes),
@@ -80,7 +94,12 @@ impl Files {
     /// Makes stable what was written to both, and the first time also what was there before and the names of the files.
     /// After a sync that failed the system may take what was written for stable, and a further one would succeed; so
     /// no call does from then on.
-    pub fn sync(&mut self, rt: &HostRuntime) -> bool {
+    pub fn sync(&mut self, rt: &HostRuntime) -> bool
+        ensures stable { result ≡ true → all_stable self.new.opened ≡ true }
+        ensures files { (part : Part) → result ≡ true → file_of part self.new.opened ≡ file_of part self.old.opened }
+        ensures refused { result ≡ false → self.new.opened ≡ Refused }
+        ensures stays { self.old.opened ≡ Refused → result ≡ false }
+    {
         let is_stable = self.sync_both(rt);
         if !is_stable {
             self.opened = Opened::Refused;
@@ -88,7 +107,11 @@ impl Files {
         is_stable
     }
 
-    fn sync_both(&mut self, rt: &HostRuntime) -> bool {
+    fn sync_both(&mut self, rt: &HostRuntime) -> bool
+        ensures stable { result ≡ all_stable self.new.opened }
+        ensures stays { self.old.opened ≡ Refused → result ≡ false }
+        ensures files { (part : Part) → file_of part self.new.opened ≡ file_of part self.old.opened }
+    {
         match &mut self.opened {
             Opened::Both(zero, one, is_named) => {
                 sync_file(zero) && sync_file(one) && sync_folder(rt, is_named)
@@ -97,7 +120,9 @@ impl Files {
         }
     }
 
-    fn file(&self, part: Part) -> Option<&File> {
+    fn file(&self, part: Part) -> Option<&File>
+        ensures { option_copied result ≡ file_of part self.now.opened }
+    {
         match (&self.opened, part) {
             (Opened::Both(zero, _, _), Part::Zero) => Some(&zero.file),
             (Opened::Both(_, one, _), Part::One) => Some(&one.file),
@@ -106,7 +131,9 @@ impl Files {
     }
 }
 
-fn open_both(rt: &HostRuntime) -> Opened {
+fn open_both(rt: &HostRuntime) -> Opened
+    ensures { IsFresh result }
+{
     let Some(zero) = open_part(rt, NAME_OF_ZERO) else {
         return Opened::Refused;
     };
@@ -117,7 +144,9 @@ fn open_both(rt: &HostRuntime) -> Opened {
 }
 
 // An earlier process may have written what isn't stable yet.
-fn open_part(rt: &HostRuntime, path: &str) -> Option<PartFile> {
+fn open_part(rt: &HostRuntime, path: &str) -> Option<PartFile>
+    ensures { IfSome result (λ part. part.is_stable ≡ false) }
+{
     let file = OpenOptions::new()
         .read(true)
         .write(true)
@@ -149,18 +178,24 @@ fn filled(file: &File, place: u64, into: &mut [u8]) -> Option<usize>
     None
 }
 
-fn write_to(part: &mut PartFile, place: u64, bytes: &[u8]) -> bool {
+fn write_to(part: &mut PartFile, place: u64, bytes: &[u8]) -> bool
+    ensures { part.new ≡ record part.old { is_stable = false } }
+{
     part.is_stable = false;
     part.file.write_all_at(bytes, place).is_ok()
 }
 
-fn sync_file(part: &mut PartFile) -> bool {
+fn sync_file(part: &mut PartFile) -> bool
+    ensures { part.new ≡ record part.old { is_stable = result } }
+{
     part.is_stable = part.is_stable || part.file.sync_all().is_ok();
     part.is_stable
 }
 
 // Makes stable which files the folder has, unless it is.
-fn sync_folder(rt: &HostRuntime, is_named: &mut bool) -> bool {
+fn sync_folder(rt: &HostRuntime, is_named: &mut bool) -> bool
+    ensures { result ≡ is_named.new }
+{
     *is_named = *is_named || File::open(rt, ".").is_ok_and(|folder| folder.sync_all().is_ok());
     *is_named
 }

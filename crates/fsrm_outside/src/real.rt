@@ -1,6 +1,8 @@
 //! The standard streams of the process, and two files.
 
-ghost use Rattle.std.specs.Prelude.{◌≡◌, ◌≤◌, ◌<◌, length, IfOk, IfSome};
+ghost use Rattle.std.specs.Prelude.{◌≡◌, ◌≤◌, ◌<◌, ◌+◌, ◌^◌, length, IfOk, IfSome};
+ghost use Rattle.fsrm_outside.specs.RealOutside.{opened_of};
+ghost use Rattle.fsrm_outside.specs.declared.files.Opened.TheVariants.{NotYet};
 
 use crate::files::Files;
 use crate::{Disk, Failed, Outside, Part, Sink, Source};
@@ -45,6 +47,7 @@ impl RealOutside {
         ensures read_faults { IfOk result (λ o. ⟦<RealOutside as Source>⟧.read_faults o ≡ 0) }
         ensures write_faults { IfOk result (λ o. ⟦<RealOutside as Sink>⟧.write_faults o ≡ 0) }
         ensures disk_faults { IfOk result (λ o. ⟦<RealOutside as Disk>⟧.disk_faults o ≡ 0) }
+        ensures files { IfOk result (λ o. opened_of o ≡ NotYet) }
     {
         Ok(RealOutside {
             system: *rt,
@@ -157,8 +160,11 @@ impl Sink for RealOutside {
 }
 
 impl Disk for RealOutside {
-    ghost use Rattle.std.specs.Prelude.{None};
+    ghost use Rattle.std.specs.Prelude.{◌≢◌, false, true, IsSome, None, OnErr, OnOk};
+    ghost use Rattle.fsrm_outside.specs.Causes.{HasCause};
+    ghost use Rattle.fsrm_outside.specs.Files.{all_stable, file_of};
     ghost use Rattle.fsrm_outside.specs.RealOutside.{ByDisk, disk_faults_of, disk_same, disk_then, untold};
+    ghost use Rattle.fsrm_outside.specs.declared.files.Opened.TheVariants.{Refused};
 
     ghost reads = { λ _. None };
 
@@ -170,7 +176,14 @@ impl Disk for RealOutside {
 
     ghost by_disk = { ByDisk };
 
-    fn len(&mut self, part: Part) -> Result<u64, Failed> {
+    fn len(&mut self, part: Part) -> Result<u64, Failed>
+        ensures bound { IfOk result (λ n. n ≤ 2 ^ 62) }
+        ensures by { ByDisk self.old self.new }
+        ensures cause { HasCause (disk_faults_of self.old) (disk_faults_of self.new) result }
+
+        ensures tried { opened_of self.new ≢ NotYet }
+        ensures opened { OnOk result (IsSome (file_of part (opened_of self.new))) }
+    {
         self.files.open_once(&self.system);
         match self.files.len(part) {
             Some(length) if length <= MOST => Ok(length),
@@ -178,7 +191,14 @@ impl Disk for RealOutside {
         }
     }
 
-    fn read_at(&mut self, part: Part, place: u64, into: &mut [u8]) -> Result<usize, Failed> {
+    fn read_at(&mut self, part: Part, place: u64, into: &mut [u8]) -> Result<usize, Failed>
+        ensures count { IfOk result (λ n. n ≤ length into.new) }
+        ensures by { ByDisk self.old self.new }
+        ensures cause { HasCause (disk_faults_of self.old) (disk_faults_of self.new) result }
+
+        ensures tried { opened_of self.new ≢ NotYet }
+        ensures opened { OnOk result (IsSome (file_of part (opened_of self.new))) }
+    {
         self.files.open_once(&self.system);
         match self.files.read_at(part, place, into) {
             Some(count) => Ok(count),
@@ -186,7 +206,15 @@ impl Disk for RealOutside {
         }
     }
 
-    fn write_at(&mut self, part: Part, place: u64, bytes: &[u8]) -> Result<(), Failed> {
+    fn write_at(&mut self, part: Part, place: u64, bytes: &[u8]) -> Result<(), Failed>
+        ensures bound { OnOk result (place + length bytes.now ≤ 2 ^ 62) }
+        ensures by { ByDisk self.old self.new }
+        ensures cause { HasCause (disk_faults_of self.old) (disk_faults_of self.new) result }
+
+        ensures tried { opened_of self.new ≢ NotYet }
+        ensures opened { OnOk result (IsSome (file_of part (opened_of self.new))) }
+        ensures unsettled { OnOk result (all_stable (opened_of self.new) ≡ false) }
+    {
         self.files.open_once(&self.system);
         let count = bytes.len() as u64;
         let fits = count <= MOST && place <= MOST - count;
@@ -196,7 +224,14 @@ impl Disk for RealOutside {
         Ok(())
     }
 
-    fn sync(&mut self) -> Result<(), Failed> {
+    fn sync(&mut self) -> Result<(), Failed>
+        ensures by { ByDisk self.old self.new }
+        ensures cause { HasCause (disk_faults_of self.old) (disk_faults_of self.new) result }
+
+        ensures tried { opened_of self.new ≢ NotYet }
+        ensures stable { OnOk result (all_stable (opened_of self.new) ≡ true) }
+        ensures refused { OnErr result (opened_of self.new ≡ Refused) }
+    {
         self.files.open_once(&self.system);
         if !self.files.sync(&self.system) {
             return Err(Failed::counted(&mut self.disk_faults));
