@@ -34,6 +34,14 @@ IsFit (Made seed count) = Unit {0}
 IsFit (Moves ask) = is_moment ask.now.expiry.moment ≡ true
 IsFit (Jobs moment) = is_moment moment ≡ true
 
+-- so many of its records are made stable at once: nobody waits for replies that aren't shown, and a job or a move is kept
+-- before the next one
+abbrev pub task_group : Task → ℕ
+task_group (Script group) = group
+task_group (Made seed count) = 1024
+task_group (Moves ask) = 1
+task_group (Jobs moment) = 1
+
 -- if it reads a script, this one is told to be left
 abbrev pub IsGiven : Task → Option (List ℕ) → List ℕ → Type 0
 IsGiven (Script group) left script = left ≡ Some script

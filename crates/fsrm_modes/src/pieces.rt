@@ -32,6 +32,7 @@ fn room_for(taken: u64, size: usize) -> usize
     ensures some { 0 < result }
     ensures fits { result ≤ size }
     ensures within { taken < longest_script → taken + result ≤ longest_script }
+    ensures whole { taken + size ≤ longest_script → result ≡ size }
     ensures last { taken ≡ longest_script → result ≡ 1 }
 {
     if taken == LONGEST_SCRIPT {

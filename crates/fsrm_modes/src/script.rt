@@ -108,6 +108,7 @@ fn pass<O: Outside, L: Ledger>(
     ensures counts { ReadCounts result (O.read_faults outside.old) (O.read_faults outside.new) (O.write_faults outside.old) (O.write_faults outside.new) (O.disk_faults outside.old) (O.disk_faults outside.new) }
     ensures looks { (script : List ℕ) → O.left outside.old ≡ Some script → SpendsLines (members O.Source O.Sink O.Disk) session.old.store.engine.size (place_of lines.old) (piece_of result script) session.old outside.old steps.old steps.new (left_after result session.new) }
     ensures size { OnOk result (session.new.store.engine.size ≡ session.old.store.engine.size) }
+    ensures shown { OnOk result (session.new.store.journal.held ≡ 0 → session.new.kept.items ≡ []) }
 {
     let count = next_piece(outside, buffer, taken)?;
     feed(lines, session, outside, &buffer[..count], steps)?;

@@ -10,7 +10,7 @@ ghost use Rattle.fsrm_session.specs.Underway.{CanTake, Underway};
 ghost use Rattle.fsrm_store.specs.Amortized.{bytes_since, Amortized};
 ghost use Rattle.fsrm_store.specs.Standing.{IsReady};
 ghost use Rattle.fsrm_modes.specs.Looks.{left_after};
-ghost use Rattle.fsrm_modes.specs.Tasks.{task_cost, task_turns, IsFit, IsGiven, Performs, ServesTask};
+ghost use Rattle.fsrm_modes.specs.Tasks.{task_cost, task_group, task_turns, IsFit, IsGiven, Performs, ServesTask};
 
 use crate::ending::{conclude, told};
 use crate::expiring::{ExpireAsk, move_expired};
@@ -41,6 +41,7 @@ pub enum Task<'a> {
 // them.
 fn group_of(task: Task) -> u32
     requires fit { IsFit task }
+    ensures group { result ≡ task_group task.entry }
     ensures few { 1 ≤ result }
     ensures most { result ≤ 1024 }
 {
@@ -102,6 +103,7 @@ fn perform<O: Outside, L: Ledger>(
     steps: &mut Steps<L>,
 ) -> Result<(), Status>
     requires fit { IsFit task }
+    requires group { session.old.store.group ≡ task_group task }
     requires ready { CanTake O.reads session.old outside.old }
     ensures performs { Performs (members O.Source O.Sink O.Disk) task.entry result session.old session.new outside.old outside.new }
     ensures looks { (script : List ℕ) → IsGiven task.entry (O.left outside.old) script

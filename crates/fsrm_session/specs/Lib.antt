@@ -7,3 +7,4 @@ pub mod Turns
 pub mod Covers
 pub mod Underway
 pub mod Counts
+pub mod LongReplies

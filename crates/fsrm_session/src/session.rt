@@ -99,6 +99,7 @@ impl Session {
         requires ready { IsReady O.reads self.old.store.journal outside.old }
         ensures runs { MatchResult result (λ _. Calms (members O.Source O.Sink O.Disk) self.old self.new outside.old outside.new) (λ stop. Breaks (members O.Source O.Sink O.Disk) stop self.old self.new outside.old outside.new) }
         ensures ready { OnOk result (CanTake O.reads self.new outside.new) }
+        ensures group { OnOk result (self.new.store.group ≡ group) }
         ensures memory { IsErrOf result Stop.NoMemory → CanFlush O.reads self.new outside.new }
         ensures counts { Counts result (O.write_faults outside.old) (O.write_faults outside.new) (O.disk_faults outside.old) (O.disk_faults outside.new) }
         ensures reads { O.read_faults outside.new ≡ O.read_faults outside.old }

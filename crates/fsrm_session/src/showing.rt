@@ -89,6 +89,7 @@ impl Session {
         ensures ready { OnOk result (CanFlush O.reads self.new outside.new) }
         ensures engine { self.new.store.engine ≡ self.old.store.engine }
         ensures few { OnOk result (length self.new.kept.items < 1048576) }
+        ensures idle { length self.old.kept.items < 1048576 → outside.new ≡ outside.old }
         ensures memory { IsErrOf result Stop.NoMemory → ⊥ }
         ensures counts { Counts result (O.write_faults outside.old) (O.write_faults outside.new) (O.disk_faults outside.old) (O.disk_faults outside.new) }
         ensures reads { O.read_faults outside.new ≡ O.read_faults outside.old }

@@ -1,9 +1,10 @@
 //! Commands are taken: journaled, if they last, and their replies told.
 
-ghost use Rattle.std.specs.Prelude.{◌≡◌, ◌<◌, ◌∷◌, [], length, true, OnOk, MatchResult, IsErrOf};
+ghost use Rattle.std.specs.Prelude.{◌≡◌, ◌<◌, ◌∷◌, [], length, true, false, OnOk, MatchResult, IsErrOf};
 ghost use Rattle.fsrm_model.specs.store.Valued.{is_command};
 ghost use Rattle.fsrm_model.specs.texts.Text.{is_bare};
 ghost use Rattle.fsrm_session.specs.Counts.{Counts};
+ghost use Rattle.fsrm_session.specs.LongReplies.{is_long};
 ghost use Rattle.fsrm_session.specs.Members.{members};
 ghost use Rattle.fsrm_session.specs.Spending.{bytes_after, Eases, Spends};
 ghost use Rattle.fsrm_session.specs.Turns.{command_turn, refused_turn};
@@ -21,7 +22,9 @@ use reply_text::Line;
 
 // Whether a command's reply may be long: a list, a sum, or a report. All before it is made stable and shown first, so
 // it needn't wait in memory.
-fn is_long(deed: &Deed) -> bool {
+fn is_long(deed: &Deed) -> bool
+    ensures { result ≡ is_long deed.now }
+{
     match deed {
         Deed::Usage { .. } => true,
         Deed::Quota(deed) => matches!(deed.as_ref(), QuotaDeed::List { .. }),
@@ -48,6 +51,8 @@ impl Session {
         steps: &mut Steps<L>,
     ) -> Result<(), Stop>
         requires ready { CanFlush O.reads self.old outside.old }
+        ensures idle { is_long deed.now ≡ false → outside.new ≡ outside.old }
+        ensures none { is_long deed.now ≡ true → OnOk result (self.new.kept.items ≡ []) }
         ensures runs { MatchResult result (λ _. Calms (members O.Source O.Sink O.Disk) self.old self.new outside.old outside.new) (λ stop. Breaks (members O.Source O.Sink O.Disk) stop self.old self.new outside.old outside.new) }
         ensures ready { OnOk result (CanFlush O.reads self.new outside.new) }
         ensures engine { self.new.store.engine ≡ self.old.store.engine }

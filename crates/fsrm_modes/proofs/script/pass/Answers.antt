@@ -50,6 +50,7 @@ returns-in_err-count g c =
       stopped = rw (p.1, p.2) (λ write disk. read_flush was first last laws read.by c.requires.ready.flush);
       counts = rw (p.1, p.2) (counts_read status (left first) (left last) _ _ _ _ _ _ read.lost read.later (λ is. read.cause (ap (λ (s : Status). Err s) is)) read.kept (laws.read_keeps_sink first last read.by).same_faults (laws.read_keeps_disk first last read.by).same_faults);
       size = rw p.1 tt;
+      shown = rw p.1 tt;
       looks = λ script told. leaves_less was.store.engine.size (place_of c.args.lines.now) (piece_of c.from_residual.result script) was first c.args.steps.now c.args.steps.now (bytes_since was.store.journal) (left_after c.from_residual.result was) (left_most c.from_residual.result was)
           (spends_none was.store.engine.size (place_of c.args.lines.now) (piece_of c.from_residual.result script) was first c.args.steps.now);
     }
@@ -84,6 +85,7 @@ returns-in_err-feed g c =
       stopped = rw (p.1, p.2) (stays_ready stop (λ is. end.memory (ap Err is)));
       counts = rw (p.1, p.2) (counts_stop stop _ _ _ _ _ _ _ _ (end.reads ∙ read.kept) (laws.read_keeps_sink first mid read.by).same_faults (laws.read_keeps_disk first mid read.by).same_faults end.counts);
       size = rw p.1 tt;
+      shown = rw p.1 tt;
       looks = rw (p.1, p.2)
           (λ script told. stop_spends size a bytes script was first mid c.args.steps.now c.feed.new.steps (bytes_after {T = Unit {0}} (Err stop) now) (left_after {T = ℕ} (Err (of_stop stop)) now) laws read.by read.bytes told (left_stop (Unit {0}) ℕ stop now) end.looks);
     }
@@ -123,6 +125,7 @@ returns-in_err-pause g c =
       stopped = rw (p.1, p.2) (stays_ready stop (λ is. absurd (end.memory (ap Err is))));
       counts = rw (p.1, p.2) (counts_stop stop _ _ _ _ _ _ _ _ (end.reads ∙ fed.reads ∙ read.kept) (fed.counts.0 ∙ (laws.read_keeps_sink first mid read.by).same_faults) (fed.counts.1 ∙ (laws.read_keeps_disk first mid read.by).same_faults) end.counts);
       size = rw p.1 tt;
+      shown = rw p.1 tt;
       looks = rw (p.1, p.2)
           (λ script told. stop_spends size a bytes script was first mid c.args.steps.now c.feed.new.steps (bytes_since c.feed.new.session.store.journal) (left_after {T = ℕ} (Err (of_stop stop)) now) laws read.by read.bytes told
           (left_same {T = ℕ} (Err (of_stop stop)) c.feed.new.session now (ap (λ (s : Store). s.journal) end.store)) fed.looks);
@@ -163,6 +166,7 @@ returns g c =
         end.counts.1 ∙ fed.counts.1 ∙ (laws.read_keeps_disk first mid read.by).same_faults,
       );
       size = ap (λ (s : Store). s.engine.size) end.store ∙ fed.size;
+      shown = λ none. end.empty (sym (ap (λ (s : Store). s.journal.held) end.store) ∙ none);
       looks = λ script told. leaves_less size a (take count script) was first c.args.steps.now c.feed.new.steps (bytes_since c.feed.new.session.store.journal) (bytes_since c.pause.new.self.store.journal) (left_same (Ok count) c.feed.new.session c.pause.new.self (ap (λ (s : Store). s.journal) end.store))
           (pass_spends size a bytes script count was first mid c.args.steps.now c.feed.new.steps (bytes_since c.feed.new.session.store.journal) laws read.by long read.bytes told fed.looks);
     }

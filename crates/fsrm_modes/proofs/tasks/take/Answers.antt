@@ -1,4 +1,4 @@
-use Rattle.std.proofs.Common.{ℕ, List, ◌+◌, ◌≤◌, ap, subst, sym, arith}
+use Rattle.std.proofs.Common.{ℕ, List, ◌+◌, ◌≤◌, ◌∙◌, ap, subst, sym, arith}
 use Rattle.std.specs.Prelude.{Err, Option}
 use Rattle.fsrm_model.specs.declared.row.Capacity.{Capacity}
 use Rattle.fsrm_model.specs.declared.row.Rows.{Rows}
@@ -13,6 +13,9 @@ use Rattle.fsrm_modes.proofs.OwnEnds.{turns_spent}
 use Rattle.fsrm_modes.proofs.Spent.{stop_spent}
 use Rattle.fsrm_modes.proofs.TaskRuns.{since_performs, unbegun_performs}
 use Rattle.fsrm_modes.proofs.tasks.take.Goals as goal
+
+pub perform-requires-clause-group : goal.perform-requires-clause-group
+perform-requires-clause-group g c = c.in-Ok.ensures.group ∙ c.group_of.ensures.group
 
 pub returns-in-Ok-clause-performs : goal.returns-in-Ok-clause-performs
 returns-in-Ok-clause-performs g c =
