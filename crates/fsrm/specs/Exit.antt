@@ -1,5 +1,7 @@
 -- How the process ends after a run.
 use Rattle.std.specs.Prelude.{ℕ, List, [], codes}
+use Rattle.fsrm_outside.specs.declared.traits.Part.{Part}
+use Rattle.fsrm_outside.specs.declared.traits.Part.TheVariants.{Zero, One}
 use Rattle.fsrm_modes.specs.declared.status.Status.{Status}
 use Rattle.fsrm_modes.specs.declared.status.Status.TheVariants.{Done, Usage, ReadFault, WriteFault, DiskFault, TooLong, Damaged, NoMemory, NoStore, AlreadyStore}
 
@@ -28,3 +30,8 @@ exit_message (Damaged part place) = codes "fsrm: store damaged"
 exit_message NoMemory = codes "fsrm: out of memory"
 exit_message NoStore = codes "fsrm: no store here"
 exit_message AlreadyStore = codes "fsrm: a store is here already"
+
+-- the number by which a part is named: that of its file
+abbrev pub part_number : Part → ℕ
+part_number Zero = 0
+part_number One = 1

@@ -2,7 +2,7 @@
 #![tactic(auto)]
 
 ghost use Rattle.std.specs.Prelude.{◌≡◌, ◌<◌};
-ghost use Rattle.fsrm.specs.Exit.{exit_status, exit_message};
+ghost use Rattle.fsrm.specs.Exit.{exit_status, exit_message, part_number};
 
 use fsrm_model::{Steps, Weightless};
 use fsrm_modes::{Status, run};
@@ -117,7 +117,9 @@ fn exit_of(status: Status) -> (u8, &'static str)
     }
 }
 
-fn part_number(part: Part) -> u8 {
+fn part_number(part: Part) -> u8
+    ensures { result ≡ part_number part }
+{
     match part {
         Part::Zero => 0,
         Part::One => 1,

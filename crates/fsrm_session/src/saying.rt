@@ -1,7 +1,8 @@
 //! Text that tells of no command is said.
 
-ghost use Rattle.std.specs.Prelude.{◌≡◌, ◌<◌, ◌≤◌, ◌∷◌, [], flat_map, length, OnOk, OnErr, MatchResult, IsErrOf, Err};
+ghost use Rattle.std.specs.Prelude.{◌≡◌, ◌≢◌, ◌<◌, ◌≤◌, ◌∷◌, [], flat_map, length, OnOk, OnErr, MatchResult, IsErrOf, Err};
 ghost use Rattle.line_parts.specs.Parts.{part_text};
+ghost use Rattle.fsrm_session.specs.Batch.{most_waiting};
 ghost use Rattle.fsrm_session.specs.Counts.{Counts};
 ghost use Rattle.fsrm_session.specs.Members.{members};
 ghost use Rattle.fsrm_session.specs.Spending.{bytes_after, Spends};
@@ -28,6 +29,7 @@ impl Session {
         ensures reads { O.read_faults outside.new ≡ O.read_faults outside.old }
         ensures left { O.left outside.new ≡ O.left outside.old }
         ensures store { self.new.store ≡ self.old.store }
+        ensures few { length self.old.kept.items ≤ most_waiting → length self.new.kept.items ≤ most_waiting }
     {
         let mut batch = Batch {
             waiting: &mut self.kept,
@@ -49,6 +51,7 @@ impl Session {
         ensures ready { OnOk result (CanTake O.reads self.new outside.new) }
         ensures memory { IsErrOf result Stop.NoMemory → CanFlush O.reads self.new outside.new }
         ensures store { self.new.store ≡ self.old.store }
+        ensures err { OnErr result (self.new.kept.items ≡ self.old.kept.items) }
     {
         let mark = self.kept.len();
         let mut text = Kept {
@@ -72,6 +75,8 @@ impl Session {
         ensures reads { O.read_faults outside.new ≡ O.read_faults outside.old }
         ensures left { O.left outside.new ≡ O.left outside.old }
         ensures store { self.new.store ≡ self.old.store }
+        ensures few { self.old.store.journal.held ≡ 0 → length self.old.kept.items ≤ most_waiting → length self.new.kept.items ≤ most_waiting }
+        ensures err { self.old.store.journal.held ≢ 0 → OnErr result (self.new.kept.items ≡ self.old.kept.items) }
     {
         if self.store.held() == 0 {
             self.write_parts(outside, parts)

@@ -1,8 +1,9 @@
 //! Replies are told: to the device if all is kept that they tell of, and else to the text that waits.
 
-ghost use Rattle.std.specs.Prelude.{◌≡◌, ◌≤◌, ◌+◌, [], false, OnOk, OnErr, MatchResult, IsErrOf, Err};
+ghost use Rattle.std.specs.Prelude.{◌≡◌, ◌≢◌, ◌≤◌, ◌+◌, [], false, length, OnOk, OnErr, MatchResult, IsErrOf, Err};
 ghost use Rattle.fsrm_model.specs.meaning.Named.{IsNamed};
 ghost use Rattle.fsrm_store.specs.Standing.{KeepsJournal};
+ghost use Rattle.fsrm_session.specs.Batch.{most_waiting};
 ghost use Rattle.fsrm_session.specs.Counts.{Counts};
 ghost use Rattle.fsrm_session.specs.Members.{members};
 ghost use Rattle.fsrm_session.specs.Turns.{telling_cost, told};
@@ -40,6 +41,7 @@ impl Session {
         ensures size { self.new.store.engine.size ≡ self.old.store.engine.size }
         ensures rows { self.new.store.engine.rows ≡ self.old.store.engine.rows }
         ensures journal { KeepsJournal self.old.store self.new.store }
+        ensures few { length self.old.kept.items ≤ most_waiting → length self.new.kept.items ≤ most_waiting }
         ensures looks { steps.new ≤ steps.old + telling_cost self.old.store.engine.size self.old.store.engine.rows self.old.store.engine.waiting line.moment answer.now.outcome }
     {
         let mut batch = Batch {
@@ -72,6 +74,7 @@ impl Session {
         ensures size { self.new.store.engine.size ≡ self.old.store.engine.size }
         ensures rows { self.new.store.engine.rows ≡ self.old.store.engine.rows }
         ensures journal { KeepsJournal self.old.store self.new.store }
+        ensures err { OnErr result (self.new.kept.items ≡ self.old.kept.items) }
         ensures looks { steps.new ≤ steps.old + telling_cost self.old.store.engine.size self.old.store.engine.rows self.old.store.engine.waiting line.moment answer.now.outcome }
     {
         let mark = self.kept.len();
@@ -106,6 +109,8 @@ impl Session {
         ensures size { self.new.store.engine.size ≡ self.old.store.engine.size }
         ensures rows { self.new.store.engine.rows ≡ self.old.store.engine.rows }
         ensures journal { KeepsJournal self.old.store self.new.store }
+        ensures few { self.old.store.journal.held ≡ 0 → length self.old.kept.items ≤ most_waiting → length self.new.kept.items ≤ most_waiting }
+        ensures err { self.old.store.journal.held ≢ 0 → OnErr result (self.new.kept.items ≡ self.old.kept.items) }
         ensures looks { steps.new ≤ steps.old + telling_cost self.old.store.engine.size self.old.store.engine.rows self.old.store.engine.waiting line.moment answer.now.outcome }
     {
         if self.store.held() == 0 {

@@ -22,6 +22,15 @@ returns-then-is_err-clause-runs g c =
     tells_stops NoMemory [] text was next c.args.outside.now c.args.outside.now (text, refl)
     (kept_tells [] was next c.args.outside.now (laws_of g.met.O.Sink g.met.O.Disk g.met.O.Outside) (alike_own was.store) (back ∙ sym (append-nil was.kept.items)))
 
+pub returns-then-is_err-clause-err : goal.returns-then-is_err-clause-err
+returns-then-is_err-clause-err g c =
+    let was = c.args.self.now in
+    let text = flat_map part_text c.args.parts.now in
+    let reply = c.send in
+    let sent = sent_front reply.result _ _ text reply.ensures.writes.text in
+    let long : c.len-mark.result ≡ length was.kept.items = omega (arith, c.len-mark.ensures, was.kept.ok.0) in
+    c.truncate.ensures.items ∙ cut_back was.kept.items reply.new.sink.bytes.now.items sent.front c.len-mark.result (kept_more was.kept.items reply.new.sink.bytes.now.items sent.front sent.shown) long
+
 pub returns-clause-runs : goal.returns-clause-runs
 returns-clause-runs g c =
     let was = c.args.self.now in

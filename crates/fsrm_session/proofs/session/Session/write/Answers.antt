@@ -47,3 +47,12 @@ returns-in-Err-NoMemory-clause-runs g c =
     ended_as (λ d. StopsTelling (members g.O.Source g.O.Sink g.O.Disk) stops.NoMemory text was next c.args.outside.now d) _ batch.device.now _ batch.device.ghost_name by.same_device (search rules)
     (tells_stops stops.NoMemory part text was next c.args.outside.now batch.device.now writes.text.is_front
     (written_tells part was next c.args.outside.now batch.device.now (laws_of g.met.O.Sink g.met.O.Disk g.met.O.Outside) c.requires.none c.write_reply.ensures.stands by.device_by writes.text.shown by.grows))
+
+pub returns-in-Ok-clause-few : goal.returns-in-Ok-clause-few
+returns-in-Ok-clause-few g c = c.in-Ok.ensures.writes.device.by.few
+
+pub returns-in-Err-WriteFault-clause-few : goal.returns-in-Err-WriteFault-clause-few
+returns-in-Err-WriteFault-clause-few g c = c.in-Err-WriteFault.ensures.writes.device.by.few
+
+pub returns-in-Err-NoMemory-clause-few : goal.returns-in-Err-NoMemory-clause-few
+returns-in-Err-NoMemory-clause-few g c = c.in-Err-NoMemory.ensures.writes.device.by.few
