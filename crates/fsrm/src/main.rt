@@ -2,6 +2,7 @@
 #![tactic(auto)]
 
 ghost use Rattle.std.specs.Prelude.{◌≡◌, ◌<◌};
+ghost use Rattle.std.specs.Process.{exit_status as code_of};
 ghost use Rattle.fsrm.specs.Exit.{exit_status, exit_message, part_number};
 
 use fsrm_model::{Steps, Weightless};
@@ -99,11 +100,11 @@ fn run_counted<B: Ledger>(rt: &HostRuntime, alloc: Global, blank: Blank) -> Stat
 }
 
 // The exit status, and what is said of it on standard error.
-fn exit_of(status: Status) -> (u8, &'static str)
-    ensures status { result.0 ≡ exit_status status }
+fn exit_of(status: Status) -> (ExitCode, &'static str)
+    ensures status { code_of result.0 ≡ exit_status status }
     ensures message { result.1.now ≡ exit_message status }
 {
-    match status {
+    let (code, message) = match status {
         Status::Done => (0, ""),
         Status::Usage => (2, "fsrm: words not understood"),
         Status::ReadFault => (3, "fsrm: input failed"),
@@ -114,7 +115,8 @@ fn exit_of(status: Status) -> (u8, &'static str)
         Status::NoMemory => (8, "fsrm: out of memory"),
         Status::NoStore => (9, "fsrm: no store here"),
         Status::AlreadyStore => (10, "fsrm: a store is here already"),
-    }
+    };
+    (ExitCode::from(code), message)
 }
 
 fn part_number(part: Part) -> u8
@@ -128,7 +130,7 @@ fn part_number(part: Part) -> u8
 
 fn main(rt: HostRuntime) -> ExitCode {
     let status = run_counted::<Brand>(&rt, rt.alloc(), Blank::new(1));
-    let (number, text) = exit_of(status);
+    let (code, text) = exit_of(status);
     // If standard error is closed too, the exit status tells it alone.
     let _ = match status {
         Status::Done => Ok(()),
@@ -138,5 +140,5 @@ fn main(rt: HostRuntime) -> ExitCode {
         }
         _ => eprintln!(rt; "{text}"),
     };
-    ExitCode::from(number)
+    code
 }
